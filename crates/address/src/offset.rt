@@ -1,0 +1,30 @@
+// A byte offset in config space.
+ghost use mathlib.Core.Path.{_≡_};
+ghost use Rattle.address.specs.Kinds.{offsetOf};
+
+#[repr(C)]
+pub struct ConfigOffset(u16);
+
+pub enum OffsetAnswer {
+    Good(ConfigOffset),
+    Bad,
+}
+
+impl ConfigOffset {
+    // An offset in a config space of `space` bytes.
+    pub fn new(space: u16, value: usize) -> OffsetAnswer
+        ensures { λ r. ⌜ r ≡ offsetOf space value ⌝ }
+    {
+        if value < space as usize {
+            OffsetAnswer::Good(ConfigOffset(value as u16))
+        } else {
+            OffsetAnswer::Bad
+        }
+    }
+
+    pub fn value(self) -> u16
+        ensures { λ r. ⌜ r ≡ self .0 ⌝ }
+    {
+        self.0
+    }
+}

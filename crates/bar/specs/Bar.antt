@@ -1,0 +1,31 @@
+-- A declared BAR: its slot, its size, and where it is asked for (document 01, tag 4).
+use Prim.Native.Nat.{ℕ, _^_}
+use mathlib.Core.Bool.{Bool, _&&_, cond}
+use lib.Dec.{leb, eqb}
+use Rattle.word.specs.Table.{anyBelow}
+use Rattle.address.specs.Kinds.{slot}
+use Rattle.address.specs.declared.slot.Slot.{Slot}
+use Rattle.bar.specs.Range.{fourGib}
+use Rattle.bar.specs.declared.memory_bar.Request.{Request}
+use Rattle.bar.specs.declared.memory_bar.Request.the-variants as request
+use Rattle.bar.specs.declared.memory_bar.MemoryBar.{MemoryBar}
+use Rattle.bar.specs.declared.memory_bar.BarAnswer.{BarAnswer}
+use Rattle.bar.specs.declared.memory_bar.BarAnswer.the-variants as barAnswer
+
+-- 2 ^ k for some k of a 64-bit number
+unfoldable pub powerOfTwo : ℕ → Bool
+powerOfTwo n = anyBelow (λ k. eqb n (2 ^ k)) 64
+
+-- refusal 7: "size below 16, not a power of two, or above 4 GiB"
+unfoldable pub sizeOk : ℕ → Bool
+sizeOk size = leb 16 size && (leb size fourGib && powerOfTwo size)
+
+abbrev pub memoryBar : Slot → ℕ → Request → MemoryBar
+memoryBar s size r = record { slot = s; size = size; request = r }
+
+unfoldable pub barOf : Slot → ℕ → Request → BarAnswer
+barOf s size r = cond (sizeOk size) (barAnswer.Good (memoryBar s size r)) barAnswer.Bad
+
+-- no BAR: what stands past the last one of a list
+abbrev pub noBar : MemoryBar
+noBar = memoryBar (slot 0) 0 request.Auto

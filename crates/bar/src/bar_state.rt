@@ -1,0 +1,113 @@
+// The state of a placed BAR.
+ghost use mathlib.Core.Path.{_≡_};
+ghost use Rattle.bar.specs.State.{fresh, resetOf, shown, asks, probed, relocated, rangeOf};
+use crate::range::Range;
+use crate::register::candidate_address;
+use crate::register::committed_dword;
+use crate::register::size_mask;
+use crate::register::starts_probe;
+use address::Slot;
+
+// Where a BAR was placed. A size of 0 is no BAR.
+#[repr(C)]
+pub struct Plan {
+    pub slot: Slot,
+    pub size: u64,
+    pub address: u64,
+}
+
+#[repr(C)]
+pub struct BarState {
+    pub plan: Plan,
+    pub address: u64,
+    pub probing: bool,
+}
+
+// What a write to a BAR's register asks for.
+pub enum BarWrite {
+    Probe,
+    Relocate(u64),
+}
+
+// Whether the candidate of a relocation was accepted.
+pub enum Relocation {
+    Accepted(u64),
+    Kept,
+}
+
+impl BarState {
+    pub fn new(plan: Plan) -> BarState
+        ensures { λ r. ⌜ r ≡ fresh plan ⌝ }
+    {
+        let address = plan.address;
+        BarState {
+            plan,
+            address,
+            probing: false,
+        }
+    }
+
+    // What the register reads.
+    pub fn raw_dword(self) -> u64
+        ensures { λ r. ⌜ r ≡ shown self ⌝ }
+    {
+        if self.probing {
+            size_mask(self.plan.size)
+        } else {
+            committed_dword(self.address) as u64
+        }
+    }
+
+    // What a write of `width` bytes from `lane` on asks for.
+    pub fn write(self, lane: usize, width: usize, value: u64) -> BarWrite
+        ensures { λ r. ⌜ r ≡ asks self lane width value ⌝ }
+    {
+        let dword = word::merged(committed_dword(self.address), lane, width, value);
+        let probe = starts_probe(dword);
+        if probe {
+            BarWrite::Probe
+        } else {
+            BarWrite::Relocate(candidate_address(dword))
+        }
+    }
+
+    pub fn set_probe(self) -> BarState
+        ensures { λ r. ⌜ r ≡ probed self ⌝ }
+    {
+        BarState {
+            probing: true,
+            ..self
+        }
+    }
+
+    pub fn finish_relocation(self, relocation: Relocation) -> BarState
+        ensures { λ r. ⌜ r ≡ relocated self relocation ⌝ }
+    {
+        let mut out = self;
+        out.probing = false;
+        match relocation {
+            Relocation::Accepted(address) => {
+                out.address = address;
+                out
+            }
+            Relocation::Kept => out,
+        }
+    }
+
+    pub fn reset(self) -> BarState
+        ensures { λ r. ⌜ r ≡ resetOf self ⌝ }
+    {
+        let plan = self.plan;
+        BarState::new(plan)
+    }
+
+    // The committed range.
+    pub fn range(self) -> Range
+        ensures { λ r. ⌜ r ≡ rangeOf self ⌝ }
+    {
+        Range {
+            start: self.address,
+            size: self.plan.size,
+        }
+    }
+}

@@ -1,0 +1,2 @@
+-- The worked cases of document 01.
+pub mod Cases

@@ -1,0 +1,21 @@
+-- The store under a write mask (document 01, "Access and reset": "any other write stores value bits where the mask is 1").
+use Prim.Native.Nat.{ℕ, _-_}
+use mathlib.Core.Bool.{cond}
+use mathlib.Core.List.{List}
+use lib.Bits.{bitAnd, bitOr}
+use lib.ListN.{length, getD}
+use Rattle.word.specs.Table.{table}
+use Rattle.word.specs.Number.{byteOf, covers}
+
+-- one byte: value bits where the mask is 1, the old ones where it is 0 (proofs/Bits.antt says it bit by bit)
+unfoldable pub blend : ℕ → ℕ → ℕ → ℕ
+blend mask old value = bitOr (bitAnd old (255 - mask)) (bitAnd value mask)
+
+-- the byte at index j after a store of `width` bytes of `value` from `offset` on: where the store covers j, blended under the mask's byte there (a place that the mask lacks is read-only); elsewhere as it was
+abbrev pub storedByte : List ℕ → List ℕ → ℕ → ℕ → ℕ → ℕ → ℕ
+storedByte mask live offset width value j =
+    cond (covers offset width j) (blend (getD mask j 0) (getD live j 0) (byteOf value (j - offset))) (getD live j 0)
+
+-- all of them
+unfoldable pub stored : List ℕ → List ℕ → ℕ → ℕ → ℕ → List ℕ
+stored mask live offset width value = table (length live) (storedByte mask live offset width value)

@@ -1,0 +1,10 @@
+// Little-endian numbers in bytes, and the store of bytes under a write mask.
+mod masked;
+mod number;
+mod width;
+
+pub use masked::blended;
+pub use masked::store;
+pub use number::merged;
+pub use number::read;
+pub use width::width_ok;

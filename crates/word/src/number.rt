@@ -1,0 +1,63 @@
+// Numbers in bytes, lowest byte first.
+ghost use mathlib.Core.Path.{_≡_};
+ghost use Prim.Native.Nat.{_+_, _≤_, min};
+ghost use lib.ListN.{length};
+ghost use Rattle.word.specs.Number.{number, readAt, bytesOf, merge};
+use crate::masked::store;
+
+fn wide(x: u8) -> u64
+    ensures { λ r. ⌜ r ≡ x ⌝ }
+{
+    x as u64
+}
+
+// The number that at most eight bytes spell.
+fn spelt(bytes: &[u8]) -> u64
+    requires { ⌜ length (now bytes) ≤ 8 ⌝ }
+    ensures { λ r. ⌜ r ≡ number (now (bytes .entry)) ⌝ }
+{
+    let mut n: u64 = 0;
+    let mut i = bytes.len();
+    while 0 < i {
+        i -= 1;
+        n = n * 256 + wide(bytes[i]);
+    }
+    n
+}
+
+fn least(a: usize, b: usize) -> usize
+    ensures { λ r. ⌜ r ≡ min a b ⌝ }
+{
+    if a < b { a } else { b }
+}
+
+// The number in `width` bytes, eight at most, from `offset` on.
+pub fn read(bytes: &[u8], offset: usize, width: usize) -> u64
+    ensures { λ r. ⌜ r ≡ readAt (now (bytes .entry)) offset width ⌝ }
+{
+    let from = least(offset, bytes.len());
+    let many = least(least(width, 8), bytes.len() - from);
+    spelt(&bytes[from..from + many])
+}
+
+// The four bytes of a dword.
+fn bytes_of(dword: u32) -> [u8; 4]
+    ensures { λ r. ⌜ r ≡ bytesOf 4 dword ⌝ }
+{
+    [
+        (dword % 256) as u8,
+        (dword / 0x100 % 256) as u8,
+        (dword / 0x1_0000 % 256) as u8,
+        (dword / 0x100_0000 % 256) as u8,
+    ]
+}
+
+// `width` bytes of a value in place of those of the dword from `lane` on.
+pub fn merged(dword: u32, lane: usize, width: usize, value: u64) -> u32
+    ensures { λ r. ⌜ r ≡ merge dword lane width value ⌝ }
+{
+    let mut bytes = bytes_of(dword);
+    let all = [255u8; 4];
+    store(&mut bytes, &all, lane, width, value);
+    spelt(&bytes) as u32
+}
