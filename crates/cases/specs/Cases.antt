@@ -3,7 +3,8 @@ use Prim.Native.Nat.{ℕ}
 use mathlib.Core.Bool.{Bool, true, false}
 use mathlib.Core.List.{List, [], _∷_, map}
 use mathlib.Core.Path.{_≡_, refl}
-use Rattle.word.specs.Table.{table}
+use lib.ListN.{length, take, replicate}
+use Rattle.word.specs.Table.{table, anyBelow}
 use Rattle.word.specs.Width.{widthOk}
 use Rattle.word.specs.Number.{number, covers, merge}
 use Rattle.address.specs.Layout.{configSpaceSize}
@@ -16,6 +17,21 @@ use Rattle.bar.specs.State.{state, asks}
 use Rattle.bar.specs.declared.bar_state.BarWrite.{BarWrite}
 use Rattle.bar.specs.declared.bar_state.BarWrite.the-variants as barWrite
 use Rattle.bar.specs.declared.bar_state.BarState.{BarState}
+use Rattle.capability.specs.First.{firstOf, allBelow}
+use Rattle.capability.specs.Declaration.{capability, capabilityOf, noneDeclared, addCapabilityOf}
+use Rattle.capability.specs.Layout.{aligned, offsetAt, repeatsAt, firstBelow, answerOf, filled, nothingPlaced, layoutOf}
+use Rattle.capability.specs.Owner.{noCapability, noEffect, regionStart, inRegion, ownerOf}
+use Rattle.capability.specs.Touch.{accessBoth, allows, touchOf}
+use Rattle.capability.specs.declared.declared.Capabilities.{Capabilities}
+use Rattle.capability.specs.declared.declared.CapabilityAnswer.{CapabilityAnswer}
+use Rattle.capability.specs.declared.declared.CapabilityAnswer.the-variants as capabilityAnswer
+use Rattle.capability.specs.declared.layout.LayoutAnswer.{LayoutAnswer}
+use Rattle.capability.specs.declared.layout.LayoutAnswer.the-variants as layoutAnswer
+use Rattle.capability.specs.declared.placed.Placed.{Placed}
+use Rattle.capability.specs.declared.placed.PlacedCapability.{PlacedCapability}
+use Rattle.capability.specs.declared.placed.PlacedEffect.{PlacedEffect}
+use Rattle.capability.specs.declared.effect_access.Touch.{Touch}
+use Rattle.capability.specs.declared.effect_access.Touch.the-variants as touch
 
 -- what document 01 asks
 pub data Question : Type 0 where
@@ -23,18 +39,43 @@ pub data Question : Type 0 where
   dword : ℕ → Question
   write : BarState → ℕ → ℕ → ℕ → Question
   check : ℕ → ℕ → Question
+  bodies : List ℕ → Question
+  starts : List ℕ → Question
+  body : ℕ → Question
+  effect-at : ℕ → ℕ → Question
 
 -- and what it answers
 pub data Reply : Type 0 where
   number-is : ℕ → Reply
   asks-for : BarWrite → Reply
   access-is : Access → Reply
+  numbers-are : List ℕ → Reply
+  layout-is : LayoutAnswer → Reply
+  capability-is : CapabilityAnswer → Reply
+  touch-is : Touch → Reply
+
+-- capabilities with bodies of these lengths
+abbrev pub declare : Capabilities → List ℕ → Capabilities
+declare d [] = d
+declare d (n ∷ ns) = declare (addCapabilityOf d (capability 9 n) .state) ns
+
+-- an effect at offset 3, of length 2, for both directions, of the capability at 0x40
+abbrev pub effect : PlacedEffect
+effect = record { id = 7; capability = 0; offset = 3; length = 2; access = accessBoth }
+
+abbrev pub withEffect : Placed
+withEffect =
+    record { capabilities = record { id = 9; offset = offset 0x40; length = 8 } ∷ replicate 15 noCapability; count = 1; effects = effect ∷ replicate 31 noEffect; «effect_count» = 1 }
 
 abbrev pub answer : Question → Reply
 answer (mask size) = number-is (sizeMask size)
 answer (dword d) = asks-for (classOf d)
 answer (write b lane width value) = asks-for (asks b lane width value)
 answer (check o w) = access-is (accessOf configSpaceSize o w)
+answer (bodies ns) = layout-is (layoutOf configSpaceSize (declare noneDeclared ns) .answer)
+answer (starts ns) = numbers-are (map (λ (p : PlacedCapability). p .offset .0) (take (length ns) (layoutOf configSpaceSize (declare noneDeclared ns) .placed .capabilities)))
+answer (body n) = capability-is (capabilityOf 9 n)
+answer (effect-at o w) = touch-is (touchOf withEffect o w false)
 
 infixl 20 _gives_
 pub data Case : Type 0 where
@@ -63,6 +104,18 @@ cases =
     (write (committedAt 0x100 0xffffff00 false) 0 1 0xff gives asks-for barWrite.Probe) ∷
     -- P4 Size 0x1000, committed 0x80001000, probing: word 0x9000 at lane 2 gives candidate 0x90001000.
     (write (committedAt 0x1000 0x80001000 true) 2 2 0x9000 gives asks-for (barWrite.Relocate 0x90001000)) ∷
+    -- P6 Bodies 4, 0, 178 start at 0x40, 0x48, 0x4c and fit; with 179 the third is refused, 13.
+    (starts (4 ∷ 0 ∷ 178 ∷ []) gives numbers-are (0x40 ∷ 0x48 ∷ 0x4c ∷ [])) ∷
+    (bodies (4 ∷ 0 ∷ 178 ∷ []) gives layout-is layoutAnswer.Placed) ∷
+    (bodies (4 ∷ 0 ∷ 179 ∷ []) gives layout-is (layoutAnswer.PastEnd 2)) ∷
+    -- P7 A lone body of 190 fits; 191 gives 13; 254 gives 10.
+    (bodies (190 ∷ []) gives layout-is layoutAnswer.Placed) ∷
+    (bodies (191 ∷ []) gives layout-is (layoutAnswer.PastEnd 0)) ∷
+    (body 254 gives capability-is capabilityAnswer.Bad) ∷
+    -- P8 Effect offset 3, length 2 at 0x40: byte 0x43 matches; word 0x42 and dword 0x44 give 19.
+    (effect-at 0x43 1 gives touch-is (touch.Effect 9 effect 3)) ∷
+    (effect-at 0x42 2 gives touch-is touch.Refused) ∷
+    (effect-at 0x44 4 gives touch-is touch.Refused) ∷
     -- P10 0xfc width 4 passes; 0x100, width 8, offset 1 width 2 give 18.
     (check 0xfc 4 gives access-is (access.Good (offset 0xfc) 4)) ∷
     (check 0x100 1 gives access-is access.Refused) ∷
@@ -72,5 +125,5 @@ cases =
 
 -- every answer is the document's
 pub cases-right : map asked cases ≡ map told cases
-unfolding cases table number covers merge widthOk accessOk accessOf sizeMask candidate committed startsProbe classOf asks
+unfolding cases table anyBelow capabilityOf noneDeclared addCapabilityOf aligned offsetAt repeatsAt firstBelow answerOf filled nothingPlaced layoutOf firstOf allBelow regionStart inRegion ownerOf allows touchOf number covers merge widthOk accessOk accessOf sizeMask candidate committed startsProbe classOf asks
 cases-right = refl

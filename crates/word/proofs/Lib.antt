@@ -1,8 +1,10 @@
 -- The laws that the crates above cite.
 pub mod Tests
 pub mod Tables
+pub mod Mapped
 pub mod Widths
 pub mod Blends
 pub mod Stores
+pub mod Puts
 pub mod Numbers
 pub mod Merges

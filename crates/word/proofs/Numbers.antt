@@ -3,10 +3,11 @@ use Prim.Native.Nat.{ℕ, zero, suc, _+_, _-_, _*_, _/_, _%_, _^_, _<_, _≤_, m
 use mathlib.Core.List.{List, [], _∷_}
 use mathlib.Core.Logic.{⊎-elim}
 use mathlib.Core.Path.{_≡_, refl, sym, ap, _∙_}
-use native.Mathlib.Nat.{pow-suc, pow-succ', div-one, div-div-eq-div-mul, pow-le-pow-right, lt-of-lt-of-le, one-le-pow, min-le-left, min-eq-left, min-eq-right, mod-lt}
+use native.Mathlib.Nat.{pow-suc, pow-succ', div-one, div-div-eq-div-mul, zero-div, pow-le-pow-right, lt-of-lt-of-le, one-le-pow, min-le-left, min-eq-left, min-eq-right, mod-lt}
 use native.Mathlib.Numerals.{add-one}
 use native.Mathlib.Omega.{arith}
 use lib.Arith.{mod-mul}
+use lib.Pow.{pow-add}
 use lib.ListN.{length, getD, take, drop, length-drop, drop-of-length-le}
 use lib.Seq.{drop-cons, getD-drop, take-length, take-all, take-nil}
 use Rattle.word.specs.Table.{table}
@@ -93,3 +94,9 @@ pub byte-number : (l : List ℕ) (k : ℕ) → k < length l → ((i : ℕ) → g
 unfolding bytesOf
 byte-number l k h b =
     sym (getD-table (length l) (byteOf (number l)) k 0 h) ∙ ap (λ (m : List ℕ). getD m k 0) (bytes-number (length l) l refl b)
+
+-- a byte past those of a number is 0
+pub byte-past : (v i k : ℕ) → v / 256 ^ i ≡ 0 → i ≤ k → byteOf v k ≡ 0
+byte-past v i k e h =
+    let d : k ≡ i + (k - i) = omega arith in
+    rw (d, pow-add 256 i (k - i), ← div-div-eq-div-mul v (256 ^ i) (256 ^ (k - i)), e, zero-div)

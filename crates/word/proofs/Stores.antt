@@ -11,7 +11,7 @@ use Rattle.word.specs.Number.{byteOf, covers}
 use Rattle.word.specs.Store.{blend, storedByte, stored}
 use Rattle.word.proofs.Tests.{below-or-not, true-or-false, covers-in, covers-before, covers-after, covers-same}
 use Rattle.word.proofs.Tables.{length-table, getD-table, table-ext, table-getD, table-set}
-use Rattle.word.proofs.Blends.{blend-none, blend-byte}
+use Rattle.word.proofs.Blends.{bit, blend-none, blend-byte, blend-bit}
 
 -- under a mask of zero nothing is stored
 unmasked : (mask live : List ℕ) (o w v j : ℕ) → getD live j 0 < 256 → getD mask j 0 ≡ 0 → storedByte mask live o w v j ≡ getD live j 0
@@ -74,3 +74,13 @@ stored-reach mask live o w n v h e =
     let z : getD mask j 0 ≡ 0 = List·getD-eq-default mask 0 m in
     unmasked mask live o n v j (h j) z ∙ sym (unmasked mask live o w v j (h j) z))
     (below-or-not j (length mask)))
+
+-- past the end there is nothing
+pub stored-past : (mask live : List ℕ) (o w v j : ℕ) → length live ≤ j → getD (stored mask live o w v) j 0 ≡ 0
+stored-past mask live o w v j h = List·getD-eq-default (stored mask live o w v) 0 {n = j} (rw stored-length h)
+
+-- a bit whose mask bit is 0 stays
+pub stored-bit : (mask live : List ℕ) (o w v j i : ℕ) → j < length live → getD mask j 0 < 256 → i < 8 → bit (getD mask j 0) i ≡ 0 → bit (getD (stored mask live o w v) j 0) i ≡ bit (getD live j 0) i
+stored-bit mask live o w v j i l m k z =
+    rw (stored-at mask live o w v j l)
+    (⊎-elim (λ (t : covers o w j ≡ true). rw t (blend-bit (getD mask j 0) (getD live j 0) (byteOf v (j - o)) i m k ∙ rw z)) (λ (t : covers o w j ≡ false). rw t) (true-or-false (covers o w j)))

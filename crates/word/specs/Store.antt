@@ -19,3 +19,10 @@ storedByte mask live offset width value j =
 -- all of them
 unfoldable pub stored : List ℕ → List ℕ → ℕ → ℕ → ℕ → List ℕ
 stored mask live offset width value = table (length live) (storedByte mask live offset width value)
+
+-- the bytes after `width` bytes of `value` were put from `offset` on, with no mask
+abbrev pub putByte : List ℕ → ℕ → ℕ → ℕ → ℕ → ℕ
+putByte bytes offset width value j = cond (covers offset width j) (byteOf value (j - offset)) (getD bytes j 0)
+
+unfoldable pub putOf : List ℕ → ℕ → ℕ → ℕ → List ℕ
+putOf bytes offset width value = table (length bytes) (putByte bytes offset width value)

@@ -1,0 +1,82 @@
+// Access to an effect: refusal 19.
+ghost use mathlib.Core.Path.{_≡_};
+ghost use Prim.Native.Nat.{_-_};
+ghost use Rattle.capability.specs.Touch.{allows, decision, touchOf};
+use crate::owner::Owner;
+use crate::owner::effect_at;
+use crate::owner::effect_holds;
+use crate::owner::first_touched;
+use crate::owner::span_at;
+use crate::placed::Placed;
+use crate::placed::PlacedEffect;
+use address::ConfigOffset;
+
+// The access numbers of an effect.
+const ACCESS_READ: u8 = 1;
+
+const ACCESS_WRITE: u8 = 2;
+
+const ACCESS_BOTH: u8 = 3;
+
+// What an access does to the effects: the capability's id, the region, and the access's offset from the capability's start.
+pub enum Touch {
+    Untouched,
+    Effect {
+        capability_id: u8,
+        region: PlacedEffect,
+        offset: u16,
+    },
+    Refused,
+}
+
+// Whether an effect allows a direction.
+fn access_allows(access: u8, write: bool) -> bool
+    ensures { λ r. ⌜ r ≡ allows write access ⌝ }
+{
+    if access == ACCESS_BOTH {
+        return true;
+    }
+    if write {
+        access == ACCESS_WRITE
+    } else {
+        access == ACCESS_READ
+    }
+}
+
+// What a is past b.
+fn past(a: u16, b: u16) -> u16
+    ensures { λ r. ⌜ r ≡ a - b ⌝ }
+{
+    if a < b { 0 } else { a - b }
+}
+
+// The answer at the effect that the access touches first.
+fn decided(placed: Placed, offset: u16, width: usize, write: bool, i: usize) -> Touch
+    ensures { λ r. ⌜ r ≡ decision placed offset width write i ⌝ }
+{
+    let inside = effect_holds(placed, offset as usize, width, i);
+    let region = effect_at(placed, i);
+    let allowed = access_allows(region.access, write);
+    if inside {
+        if allowed {
+            let capability = span_at(placed, region.capability as usize);
+            return Touch::Effect {
+                capability_id: capability.id,
+                region,
+                offset: past(offset, capability.start),
+            };
+        }
+    }
+    Touch::Refused
+}
+
+// An access of `width` bytes, checked before: untouched, answered by the effect that owns all of it, or refused.
+pub fn effect_for_access(placed: Placed, offset: ConfigOffset, width: usize, write: bool) -> Touch
+    ensures { λ r. ⌜ r ≡ touchOf placed (offset .0) width write ⌝ }
+{
+    let at = offset.value();
+    match first_touched(placed, at as usize, width) {
+        Owner::Effect(i) => decided(placed, at, width, write, i),
+        Owner::Nobody => Touch::Untouched,
+    }
+}
