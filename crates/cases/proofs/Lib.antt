@@ -1,0 +1,2 @@
+-- The cases, proved.
+pub mod Right

@@ -1,0 +1,29 @@
+-- `device_of`: past the last function stands a blank one. Assumes nothing.
+use mathlib.Core.Path.{_≡_, sym, ap}
+use native.Mathlib.Omega.{arith}
+use lib.ListN.{length, List·getD-eq-default}
+use Rattle.placement.specs.Limits.{functionLimit}
+use Rattle.placement.specs.Keys.{noFunction}
+use Rattle.placement.proofs.Fills.{long-unmapped}
+use Rattle.placement.specs.declared.declared_bars.FunctionBars.{FunctionBars}
+use borrow.Author.Needs.{needs}
+use Rattle.placement.proofs.answer.device_of.Statement.{statement}
+use Rattle.placement.proofs.answer.device_of.Tie as tie
+
+mul-function : tie.Need-mul-function
+mul-function c = search needs
+
+array-copy-out-function : tie.Need-array-copy-out-function
+array-copy-out-function c = search needs
+
+returns : tie.Need-returns
+returns c = search needs
+
+long : (c : tie.Start) → length (c .args .declared .functions) ≡ functionLimit
+long c = search (needs, long-unmapped)
+
+returns-2 : tie.Need-returns-2
+returns-2 c = ap (λ (f : FunctionBars). f .device) (sym (List·getD-eq-default (c .before .before .args .declared .functions) noFunction (omega (arith, long (c .before .before)))))
+
+pub device-of-spec : {M : Type 1} → statement M
+device-of-spec = tie.close (tie.spec mul-function array-copy-out-function returns returns-2)

@@ -1,0 +1,82 @@
+// What placement answers.
+ghost use mathlib.Core.Path.{_≡_};
+ghost use Rattle.placement.specs.Answer.{addressesOf, deviceOf, answered, placementOf};
+use crate::automatic::place_automatic;
+use crate::declared_bars::DeclaredBars;
+use crate::declared_bars::collect_placements;
+use crate::fixed::place_fixed;
+use crate::limits::BAR_LIMIT;
+use crate::limits::FUNCTION_LIMIT;
+use crate::limits::SLOTS;
+use crate::placing::Placing;
+use crate::placing::Verdict;
+use bar::Aperture;
+use bar::Range;
+
+pub enum PlacementAnswer {
+    Placed,
+    Refused { number: u8, device: u8, slot: u8 },
+}
+
+// The answer, and the address of each key: 0 where there is no BAR, and all 0 where it is refused.
+pub struct Placement {
+    pub answer: PlacementAnswer,
+    pub addresses: [u64; BAR_LIMIT],
+}
+
+fn device_of(declared: DeclaredBars, index: usize) -> u8
+    ensures { λ r. ⌜ r ≡ deviceOf declared index ⌝ }
+{
+    let functions = declared.functions;
+    if index < FUNCTION_LIMIT {
+        let function = functions[index];
+        return function.device;
+    }
+    0
+}
+
+fn addresses_of(placed: [Range; BAR_LIMIT]) -> [u64; BAR_LIMIT]
+    ensures { λ r. ⌜ r ≡ addressesOf placed ⌝ }
+{
+    let mut addresses = [0u64; BAR_LIMIT];
+    let mut key = 0;
+    while key < BAR_LIMIT {
+        let range = placed[key];
+        addresses[key] = range.start;
+        key += 1;
+    }
+    addresses
+}
+
+fn answer_of(declared: DeclaredBars, state: Placing) -> Placement
+    ensures { λ r. ⌜ r ≡ answered declared (state .verdict) (state .placed) ⌝ }
+{
+    let verdict = state.verdict;
+    match verdict {
+        Verdict::Going => {
+            let placed = state.placed;
+            Placement {
+                answer: PlacementAnswer::Placed,
+                addresses: addresses_of(placed),
+            }
+        }
+        Verdict::Refused { number, key } => Placement {
+            answer: PlacementAnswer::Refused {
+                number,
+                device: device_of(declared, key / SLOTS),
+                slot: (key % SLOTS) as u8,
+            },
+            addresses: [0u64; BAR_LIMIT],
+        },
+    }
+}
+
+// The address of every BAR in the aperture, fixed ones first.
+pub fn resolve_bar_addresses(aperture: Aperture, declared: DeclaredBars) -> Placement
+    ensures { λ r. ⌜ r ≡ placementOf aperture declared ⌝ }
+{
+    let bars = collect_placements(declared);
+    let fixed = place_fixed(aperture, bars);
+    let all = place_automatic(aperture, bars, fixed);
+    answer_of(declared, all)
+}

@@ -1,0 +1,96 @@
+// The first pass: fixed BARs, by device then slot.
+ghost use mathlib.Core.Path.{_≡_};
+ghost use Prim.Native.Nat.{_<_};
+ghost use Rattle.placement.specs.Limits.{barLimit};
+ghost use Rattle.placement.specs.Passes.{fixedVerdict, fixedStep, fixedAfter};
+use crate::conflict::Conflict;
+use crate::conflict::conflict_with;
+use crate::limits::BAR_LIMIT;
+use crate::placing::Placing;
+use crate::placing::REFUSED_NOT_MULTIPLE;
+use crate::placing::REFUSED_OUTSIDE;
+use crate::placing::REFUSED_OVERLAP;
+use crate::placing::Verdict;
+use crate::placing::settle;
+use bar::Aperture;
+use bar::MemoryBar;
+use bar::Range;
+use bar::Request;
+
+// The checks of a fixed range, in order.
+fn checked_bar_range(
+    aperture: Aperture,
+    placed: [Range; BAR_LIMIT],
+    key: usize,
+    range: Range,
+) -> Verdict
+    ensures { λ r. ⌜ r ≡ fixedVerdict aperture placed key range ⌝ }
+{
+    let aligned = range.multiple();
+    if aligned {
+        let inside = range.lies_in(aperture);
+        if inside {
+            match conflict_with(range, placed) {
+                Conflict::Free => return Verdict::Going,
+                Conflict::With(_) => {
+                    return Verdict::Refused {
+                        number: REFUSED_OVERLAP,
+                        key,
+                    };
+                }
+            }
+        }
+        return Verdict::Refused {
+            number: REFUSED_OUTSIDE,
+            key,
+        };
+    }
+    Verdict::Refused {
+        number: REFUSED_NOT_MULTIPLE,
+        key,
+    }
+}
+
+// The BAR of one key: a fixed one is checked and placed.
+fn fixed_step(
+    aperture: Aperture,
+    bars: [MemoryBar; BAR_LIMIT],
+    key: usize,
+    state: Placing,
+) -> Placing
+    requires { ⌜ key < barLimit ⌝ }
+    ensures { λ r. ⌜ r ≡ fixedStep aperture bars key state ⌝ }
+{
+    let verdict = state.verdict;
+    match verdict {
+        Verdict::Refused { number: _, key: _ } => state,
+        Verdict::Going => {
+            let bar = bars[key];
+            let request = bar.request();
+            match request {
+                Request::Auto => state,
+                Request::Fixed(start) => {
+                    let placed = state.placed;
+                    let range = Range {
+                        start,
+                        size: bar.size(),
+                    };
+                    let checked = checked_bar_range(aperture, placed, key, range);
+                    settle(checked, placed, key, range)
+                }
+            }
+        }
+    }
+}
+
+pub(crate) fn place_fixed(aperture: Aperture, bars: [MemoryBar; BAR_LIMIT]) -> Placing
+    ensures { λ r. ⌜ r ≡ fixedAfter aperture bars barLimit ⌝ }
+{
+    let mut state = Placing::new();
+    let mut key = 0;
+    while key < BAR_LIMIT {
+        state = fixed_step(aperture, bars, key, state);
+        key += 1;
+    }
+    state
+}

@@ -1,0 +1,73 @@
+// The search for the lowest free place.
+ghost use mathlib.Core.Path.{_≡_};
+ghost use Rattle.bar.specs.Range.{endOf};
+ghost use Rattle.placement.specs.Place.{Lowest};
+ghost use Rattle.placement.specs.Skip.{alignedFrom};
+use crate::conflict::Conflict;
+use crate::conflict::conflict_with;
+use crate::limits::BAR_LIMIT;
+use crate::limits::LAST_ADDRESS;
+use bar::Aperture;
+use bar::Range;
+
+pub enum Fit {
+    At(u64),
+    Nothing,
+}
+
+// The least multiple of `size` from `from` on.
+fn align_up(from: u64, size: u64) -> Fit
+    ensures { λ r. ⌜ r ≡ alignedFrom from size ⌝ }
+{
+    if size == 0 {
+        if from == 0 {
+            return Fit::At(0);
+        }
+        return Fit::Nothing;
+    }
+    let over = from % size;
+    if over == 0 {
+        return Fit::At(from);
+    }
+    let gap = size - over;
+    if LAST_ADDRESS - from < gap {
+        return Fit::Nothing;
+    }
+    Fit::At(from + gap)
+}
+
+// The least multiple of `size` past a range.
+fn align_past(range: Range, size: u64) -> Fit
+    ensures { λ r. ⌜ r ≡ alignedFrom (endOf range) size ⌝ }
+{
+    if LAST_ADDRESS - range.start < range.size {
+        return Fit::Nothing;
+    }
+    align_up(range.start + range.size, size)
+}
+
+// The lowest place for `size` addresses. Each turn passes one of the placed ranges for good.
+pub fn first_fit(aperture: Aperture, size: u64, placed: [Range; BAR_LIMIT]) -> Fit
+    ensures { λ r. ⌜ Lowest aperture size placed r ⌝ }
+{
+    let mut next = align_up(aperture.start, size);
+    loop {
+        match next {
+            Fit::Nothing => return Fit::Nothing,
+            Fit::At(start) => {
+                let candidate = Range { start, size };
+                let inside = candidate.lies_in(aperture);
+                if inside {
+                    match conflict_with(candidate, placed) {
+                        Conflict::Free => return Fit::At(start),
+                        Conflict::With(other) => {
+                            next = align_past(other, size);
+                        }
+                    }
+                } else {
+                    return Fit::Nothing;
+                }
+            }
+        }
+    }
+}
