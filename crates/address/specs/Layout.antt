@@ -29,6 +29,12 @@ subclass = 0x0a
 abbrev pub baseClass : ℕ
 baseClass = 0x0b
 
+abbrev pub cacheLineSize : ℕ
+cacheLineSize = 0x0c
+
+abbrev pub latencyTimer : ℕ
+latencyTimer = 0x0d
+
 abbrev pub headerType : ℕ
 headerType = 0x0e
 

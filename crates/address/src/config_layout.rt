@@ -21,6 +21,10 @@ pub const CONFIG_SUBCLASS_OFFSET: usize = 0x0a;
 
 pub const CONFIG_BASE_CLASS_OFFSET: usize = 0x0b;
 
+pub const CONFIG_CACHE_LINE_SIZE_OFFSET: usize = 0x0c;
+
+pub const CONFIG_LATENCY_TIMER_OFFSET: usize = 0x0d;
+
 pub const CONFIG_HEADER_TYPE_OFFSET: usize = 0x0e;
 
 pub const CONFIG_BAR_START: usize = 0x10;

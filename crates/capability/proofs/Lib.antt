@@ -16,8 +16,9 @@ pub mod Fills
 pub mod Effects
 pub mod Faults
 pub mod Declarations
-pub mod Sound
 pub mod Layouts
 pub mod Repeats
 pub mod Verdicts
 pub mod Shown
+pub mod Sounds
+pub mod Placings

@@ -10,3 +10,5 @@ pub mod View
 pub mod Effect
 pub mod Declaration
 pub mod Layout
+pub mod Sound
+pub mod Laid

@@ -1,4 +1,4 @@
--- What the layout of a function's capabilities and effects gives (document 01, refusals 11 and 13): the laws of proofs/Refusals.antt ask for it, no promise does.
+-- What the layout of a function's capabilities and effects gives (document 01, refusals 11 and 13; proofs/Placings.antt shows it): the laws of proofs/Refusals.antt ask for it, no promise does.
 use Prim.Native.Nat.{ℕ, _+_, _<_, _≤_}
 use mathlib.Core.Bool.{true}
 use mathlib.Core.Path.{_≡_}

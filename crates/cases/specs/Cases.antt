@@ -32,6 +32,16 @@ use Rattle.bar.specs.Bar.{memoryBar}
 use Rattle.bar.specs.declared.range.Aperture.{Aperture}
 use Rattle.bar.specs.declared.memory_bar.Request.the-variants.{Auto}
 use Rattle.placement.specs.Answer.{placementOf}
+use Rattle.config.specs.State.{noState}
+use Rattle.config.specs.PowerOn.{powerOnOf}
+use Rattle.config.specs.Read.{readOf}
+use Rattle.config.specs.Write.{writeOf}
+use Rattle.config.specs.Reset.{startOf}
+use Rattle.config.specs.declared.function.Contents.{Contents}
+use Rattle.config.specs.declared.function.Intx.the-variants as intx
+use Rattle.config.specs.declared.state.FunctionState.{FunctionState}
+use Rattle.config.specs.declared.read_step.ReadAnswer.{ReadAnswer}
+use Rattle.config.specs.declared.read_step.ReadAnswer.the-variants as readAnswer
 use Rattle.placement.specs.declared.declared_bars.DeclaredBars.{DeclaredBars}
 use Rattle.placement.specs.declared.answer.PlacementAnswer.{PlacementAnswer}
 use Rattle.placement.specs.declared.answer.PlacementAnswer.the-variants as placementAnswer
@@ -47,6 +57,7 @@ pub data Question : Type 0 where
   body : ℕ → Question
   effect-at : ℕ → ℕ → Question
   place : Aperture → DeclaredBars → Question
+  written : ℕ → ℕ → ℕ → Question
 
 -- and what it answers
 pub data Reply : Type 0 where
@@ -58,6 +69,7 @@ pub data Reply : Type 0 where
   capability-is : CapabilityAnswer → Reply
   touch-is : Touch → Reply
   placement-is : PlacementAnswer → Reply
+  reads : ReadAnswer → Reply
 
 -- capabilities with bodies of these lengths
 abbrev pub declare : Capabilities → List ℕ → Capabilities
@@ -77,6 +89,24 @@ abbrev pub oneAutomatic : ℕ → DeclaredBars
 oneAutomatic size =
     record { count = 1; functions = record { device = 7; count = 1; bars = memoryBar (slot 2) size Auto ∷ [] } ∷ [] }
 
+-- a function with an identity and nothing else, at power-on
+abbrev pub contents : Contents
+contents =
+    record {
+      identity = record { vendor = 0x1234; device = 0x5678; «subsystem_vendor» = 0; subsystem = 0; revision = 1; «base_class» = 1; subclass = 8; «programming_interface» = 2 };
+      intx = intx.Absent;
+      bytes = [];
+      «byte_count» = 0;
+      bodies = replicate 192 0;
+      masks = replicate 192 0;
+    }
+
+abbrev pub nothingPlaced : Placed
+nothingPlaced = record { capabilities = replicate 16 noCapability; count = 0; effects = replicate 32 noEffect; «effect_count» = 0 }
+
+abbrev pub plain : FunctionState
+plain = startOf (powerOnOf contents (replicate 6 noState) nothingPlaced) (replicate 6 noState) nothingPlaced
+
 abbrev pub answer : Question → Reply
 answer (mask size) = number-is (sizeMask size)
 answer (dword d) = asks-for (classOf d)
@@ -86,6 +116,7 @@ answer (bodies ns) = layout-is (layoutOf configSpaceSize (declare noneDeclared n
 answer (starts ns) = numbers-are (map (λ (p : PlacedCapability). p .offset .0) (take (length ns) (layoutOf configSpaceSize (declare noneDeclared ns) .placed .capabilities)))
 answer (body n) = capability-is (capabilityOf 9 n)
 answer (effect-at o w) = touch-is (touchOf withEffect o w false)
+answer (written o w v) = reads (readOf (writeOf plain o w v .state) o w .answer)
 answer (place aperture bars) = placement-is (placementOf aperture bars .answer)
 
 infixl 20 _gives_
@@ -115,6 +146,8 @@ cases =
     (write (committedAt 0x100 0xffffff00 false) 0 1 0xff gives asks-for barWrite.Probe) ∷
     -- P4 Size 0x1000, committed 0x80001000, probing: word 0x9000 at lane 2 gives candidate 0x90001000.
     (write (committedAt 0x1000 0x80001000 true) 2 2 0x9000 gives asks-for (barWrite.Relocate 0x90001000)) ∷
+    -- P5 Word 0xffff at 0x04 from power-on reads 0x0406.
+    (written 0x04 2 0xffff gives reads (readAnswer.Value 0x0406)) ∷
     -- P6 Bodies 4, 0, 178 start at 0x40, 0x48, 0x4c and fit; with 179 the third is refused, 13.
     (starts (4 ∷ 0 ∷ 178 ∷ []) gives numbers-are (0x40 ∷ 0x48 ∷ 0x4c ∷ [])) ∷
     (bodies (4 ∷ 0 ∷ 178 ∷ []) gives layout-is layoutAnswer.Placed) ∷

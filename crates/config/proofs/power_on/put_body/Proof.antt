@@ -1,0 +1,60 @@
+-- `put_body` lays the part of the bytes that is the capability’s. Assumes nothing.
+use Prim.Native.Nat.{ℕ, _<_}
+use mathlib.Core.Path.{_≡_, sym, _∙_}
+use native.Mathlib.Omega.{arith}
+use lib.ListN.{length}
+use Rattle.capability.proofs.Spans.{long-unmapped}
+use Rattle.config.proofs.PowerOns.{kept-below, kept-is}
+use borrow.Author.Needs.{needs}
+use Rattle.config.proofs.power_on.put_body.Statement.{statement}
+use Rattle.config.proofs.power_on.put_body.Tie as tie
+
+long : (c : tie.Start) → length (c .args .t3 .capabilities) ≡ 16
+long c = search (needs, long-unmapped)
+
+below : (c : tie.Start) → c .args .i < 16
+below c = omega (arith, long c, kept-below (c .args .t3) (c .args .i) (c .pre))
+
+mul-capability : tie.Need-mul-capability
+mul-capability c = omega (arith, below (c .before .before))
+
+element-copy-out-capability : tie.Need-element-copy-out-capability
+element-copy-out-capability c = below (c .before .before)
+
+cast-length : tie.Need-cast-length
+cast-length c = search needs
+
+start-at-requires : tie.Need-start-at-requires
+start-at-requires c κs = search needs
+
+cast-start : tie.Need-cast-start
+cast-start c = search needs
+
+add-copy : tie.Need-add-copy
+add-copy c = search needs
+
+copy-requires : tie.Need-copy-requires
+copy-requires c κs = search needs
+
+same-length : tie.Need-same-length
+same-length c = search needs
+
+returns : tie.Need-returns
+returns c = let p = c .before .before in
+    let s = p .before .before in
+    let a = s .before .before .before .before .before in
+    rw (p .copy .ensures, s .start-at .ensures, kept-is (a .args .t3) (a .args .i) (a .pre))
+
+pub put-body-spec : {M : Type 1} → statement M
+put-body-spec =
+    tie.close
+    (tie.spec
+    mul-capability
+    element-copy-out-capability
+    cast-length
+    start-at-requires
+    cast-start
+    add-copy
+    copy-requires
+    same-length
+    returns)

@@ -1,0 +1,74 @@
+-- `put_header` lays the id and the next offset. Assumes nothing.
+use Prim.Native.Nat.{ℕ, _<_}
+use mathlib.Core.Path.{_≡_, sym, _∙_}
+use native.Mathlib.Omega.{arith}
+use lib.ListN.{length}
+use Rattle.capability.proofs.Spans.{long-unmapped}
+use Rattle.config.proofs.Fields.{laid-append, laid-put}
+use Rattle.config.proofs.PowerOns.{kept-below, kept-is}
+use borrow.Author.Needs.{needs}
+use Rattle.config.proofs.power_on.put_header.Statement.{statement}
+use Rattle.config.proofs.power_on.put_header.Tie as tie
+
+long : (c : tie.Start) → length (c .args .t2 .capabilities) ≡ 16
+long c = search (needs, long-unmapped)
+
+below : (c : tie.Start) → c .args .i < 16
+below c = omega (arith, long c, kept-below (c .args .t2) (c .args .i) (c .pre))
+
+mul-capability : tie.Need-mul-capability
+mul-capability c = omega (arith, below (c .before))
+
+element-copy-out-capability : tie.Need-element-copy-out-capability
+element-copy-out-capability c = below (c .before)
+
+start-at-requires : tie.Need-start-at-requires
+start-at-requires c κs = search needs
+
+cast-start : tie.Need-cast-start
+cast-start c = search needs
+
+put-byte-requires : tie.Need-put-byte-requires
+put-byte-requires c κs = search needs
+
+add-put : tie.Need-add-put
+add-put c = search needs
+
+add-start-at : tie.Need-add-start-at
+add-start-at c = omega (arith, below (c .before .before .before .before .before .before .before .before))
+
+start-at-requires-2 : tie.Need-start-at-requires-2
+start-at-requires-2 c κs = search needs
+
+cast-put : tie.Need-cast-put
+cast-put c = search needs
+
+put-requires : tie.Need-put-requires
+put-requires c κs = search needs
+
+same-length : tie.Need-same-length
+same-length c = search needs
+
+returns : tie.Need-returns
+returns c = let p = c .before .before in
+    let b = p .before .before .before .before .before in
+    let s = b .before .before in
+    let a = s .before .before .before in
+    rw (p .put .ensures, b .put-byte .ensures, p .before .start-at2 .ensures, s .start-at .ensures, laid-put, kept-is (a .args .t2) (a .args .i) (a .pre)) (simp laid-append)
+
+pub put-header-spec : {M : Type 1} → statement M
+put-header-spec =
+    tie.close
+    (tie.spec
+    mul-capability
+    element-copy-out-capability
+    start-at-requires
+    cast-start
+    put-byte-requires
+    add-put
+    add-start-at
+    start-at-requires-2
+    cast-put
+    put-requires
+    same-length
+    returns)

@@ -1,0 +1,39 @@
+// What is declared of a function beside its BARs and capabilities.
+use address::ConfigOffset;
+
+pub const CONFIG_BYTE_LIMIT: usize = 32;
+
+// From 0x40 on, where capabilities lie.
+pub const BODY_SPACE: usize = 192;
+
+pub struct Identity {
+    pub vendor: u16,
+    pub device: u16,
+    pub subsystem_vendor: u16,
+    pub subsystem: u16,
+    pub revision: u8,
+    pub base_class: u8,
+    pub subclass: u8,
+    pub programming_interface: u8,
+}
+
+pub enum Intx {
+    Absent,
+    Pin { pin: u8, line: u8 },
+}
+
+pub struct ConfigByte {
+    pub offset: ConfigOffset,
+    pub value: u8,
+    pub mask: u8,
+}
+
+// The bytes of bodies and masks lie each at its place in config space, from 0x40 on.
+pub struct Contents {
+    pub identity: Identity,
+    pub intx: Intx,
+    pub bytes: [ConfigByte; CONFIG_BYTE_LIMIT],
+    pub byte_count: usize,
+    pub bodies: [u8; BODY_SPACE],
+    pub masks: [u8; BODY_SPACE],
+}

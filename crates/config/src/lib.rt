@@ -1,0 +1,36 @@
+// A function's config space: power-on image, state, reads, writes, reset.
+mod config_byte;
+mod function;
+mod image;
+mod power_on;
+mod read_step;
+mod reset_step;
+mod start;
+mod state;
+mod store_leaf;
+mod write_step;
+
+pub use config_byte::ByteCheck;
+pub use config_byte::check_config_bytes;
+pub use function::BODY_SPACE;
+pub use function::CONFIG_BYTE_LIMIT;
+pub use function::ConfigByte;
+pub use function::Contents;
+pub use function::Identity;
+pub use function::Intx;
+pub use power_on::PowerOn;
+pub use read_step::ReadAnswer;
+pub use read_step::ReadReply;
+pub use read_step::read;
+pub use reset_step::ResetAnswer;
+pub use reset_step::ResetDone;
+pub use reset_step::reset;
+pub use state::BAR_SLOTS;
+pub use state::FunctionState;
+pub use store_leaf::LARGEST_REVISION;
+pub use store_leaf::store_live;
+pub use write_step::WriteAnswer;
+pub use write_step::WriteDone;
+pub use write_step::WriteReply;
+pub use write_step::finish_relocation;
+pub use write_step::write;
