@@ -5,6 +5,7 @@ pub mod Regions
 pub mod Owners
 pub mod Touches
 pub mod Modes
+pub mod Extents
 pub mod Snapshots
 pub mod Refusals
 pub mod RustWalk

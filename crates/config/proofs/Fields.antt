@@ -1,19 +1,18 @@
 -- Images said by fields, place by place: the later field wins, and what no field has stays. Assumes nothing.
-use Prim.Native.Nat.{ℕ, suc, _+_, _-_, _<_, _≤_, min}
+use Prim.Native.Nat.{ℕ, _+_, _-_, _<_, _≤_, min}
 use mathlib.Core.Bool.{Bool, true, false, _&&_, _||_, cond, or-assoc, or-true}
 use mathlib.Core.List.{List, [], _∷_, _++_}
-use mathlib.Core.Logic.{_⊎_, inl, inr, ⊎-elim}
-use mathlib.Core.Path.{_≡_, refl, sym, ap, _∙_}
+use mathlib.Core.Logic.{⊎-elim}
+use mathlib.Core.Path.{_≡_, refl, sym, _∙_}
 use borrow.Author.Tests.{leb-true}
 use lib.Dec.{leb}
 use native.Mathlib.Omega.{arith}
-use lib.ListN.{length, getD, set, replicate, length-replicate, getD-replicate, length-set}
+use lib.ListN.{length, getD, set, replicate, length-replicate, getD-replicate}
 use lib.Seq.{ext-getD}
 use Rattle.word.specs.Number.{byteOf, covers}
-use Rattle.word.specs.Store.{putOf, putByte}
-use Rattle.word.specs.Table.{table}
+use Rattle.word.specs.Store.{putOf}
 use Rattle.word.proofs.Tests.{below-or-not, true-or-false, and-left, and-right, or-cases, covers-in, covers-before, covers-after, covers-same}
-use Rattle.word.proofs.Tables.{length-table, getD-table, table-ext, table-getD, table-set}
+use Rattle.word.proofs.Tables.{length-table, getD-table, table-ext, table-set}
 use Rattle.word.proofs.Puts.{put-length, put-at}
 use Rattle.config.specs.Field.{Field, at, part, has, byteAt, under, laid, imageOf}
 
@@ -164,7 +163,7 @@ apart-none : (f : Field) (o w j : ℕ) → apart f o w ≡ true → o ≤ j → 
 apart-none (at s n v) o w j e a b = outside s n o w j e a b
 apart-none (part s n base bytes) o w j e a b = outside s n o w j e a b
 
-clear-none : (fs : List Field) (o w j : ℕ) → clear fs o w ≡ true → o ≤ j → j < o + w → anyHas fs j ≡ false
+pub clear-none : (fs : List Field) (o w j : ℕ) → clear fs o w ≡ true → o ≤ j → j < o + w → anyHas fs j ≡ false
 unfolding clear anyHas
 clear-none [] o w j e a b = refl
 clear-none (f ∷ fs) o w j e a b =

@@ -3,6 +3,10 @@ pub mod Fields
 pub mod PowerOns
 pub mod Placeable
 pub mod Places
+pub mod Ranges
+pub mod ByteImages
+pub mod Chains
+pub mod Images
 pub mod Slots
 pub mod Commands
 pub mod Resets

@@ -1,21 +1,20 @@
 -- Refusal 9: what the check of config bytes says. Assumes nothing.
 use Prim.Native.Nat.{ℕ, _<_, _≤_}
-use mathlib.Core.Bool.{Bool, true, false, not, _&&_, _||_}
+use mathlib.Core.Bool.{true, false, not, _&&_}
 use mathlib.Core.Logic.{_⊎_, inl, inr, ⊎-elim}
-use mathlib.Core.Path.{_≡_, refl, sym, _∙_}
+use mathlib.Core.Path.{_≡_, refl}
 use native.Mathlib.Omega.{arith}
-use borrow.Author.Tests.{leb-true, ltb-true, not-false}
+use borrow.Author.Tests.{leb-true, ltb-true, ne-eqb, not-false}
 use lib.Dec.{leb, ltb}
-use Rattle.address.specs.Layout.{configSpaceSize, standardHeaderEnd}
+use Rattle.address.specs.Layout.{configSpaceSize, cacheLineSize, latencyTimer, interruptLine, standardHeaderEnd}
 use Rattle.word.specs.Table.{anyBelow}
-use Rattle.word.proofs.Tests.{and-left, and-right, or-cases}
+use Rattle.word.proofs.Tests.{below-or-not, and-left, and-right, or-cases}
 use Rattle.capability.specs.Mode.{holderOf}
 use Rattle.capability.specs.declared.byte_mode.Holder.{Holder}
 use Rattle.capability.specs.declared.byte_mode.Holder.the-variants as holder
 use Rattle.capability.specs.declared.placed.Placed.{Placed}
-use Rattle.capability.proofs.Firsts.{First, any-never, first-is, first-none, found-first, none-never}
+use Rattle.capability.proofs.Firsts.{First, true-false, any-never, first-is, first-none, found-first, none-never}
 use Rattle.config.specs.ConfigByte.{byteCount, byteOffset, headerByte, nobody, byteOk, byteBad, byteCheckOf}
-use Rattle.config.specs.declared.config_byte.ByteCheck.{ByteCheck}
 use Rattle.config.specs.declared.config_byte.ByteCheck.the-variants as byteCheck
 use Rattle.config.specs.declared.function.Contents.{Contents}
 
@@ -38,6 +37,17 @@ ok-cases p o e =
     let r = and-right (leb standardHeaderEnd o) (ltb o configSpaceSize && nobody (holderOf p o)) h in
     inr (record { from = leb-true standardHeaderEnd o (and-left (leb standardHeaderEnd o) (ltb o configSpaceSize && nobody (holderOf p o)) h); to = ltb-true o configSpaceSize (and-left (ltb o configSpaceSize) (nobody (holderOf p o)) r); free = nobody-is (holderOf p o) (and-right (ltb o configSpaceSize) (nobody (holderOf p o)) r) }))
     (or-cases (headerByte o) (leb standardHeaderEnd o && (ltb o configSpaceSize && nobody (holderOf p o))) e)
+
+-- the three places lie in the header
+pub header-bytes : (o : ℕ) {A : Type 0} → headerByte o ≡ true → standardHeaderEnd ≤ o → A
+header-bytes o e h =
+    absurd (true-false (headerByte o) e (rw (ne-eqb o cacheLineSize (λ q. omega arith), ne-eqb o latencyTimer (λ q. omega arith), ne-eqb o interruptLine (λ q. omega arith))))
+
+pub ok-below : (p : Placed) (o : ℕ) → byteOk p o ≡ true → o < configSpaceSize
+ok-below p o e =
+    ⊎-elim (λ (h : headerByte o ≡ true). ⊎-elim (λ (l : o < standardHeaderEnd). omega arith) (λ (l : standardHeaderEnd ≤ o). header-bytes o h l) (below-or-not o standardHeaderEnd))
+    (λ (h : Outside p o). h .to)
+    (ok-cases p o e)
 
 bad-one : (a b : ℕ) → byteCheck.Bad a ≡ byteCheck.Bad b → a ≡ b
 bad-one a b e = cc

@@ -1,5 +1,5 @@
 -- The stages of the power-on image: each begins with no field and grows by one byte, slot or capability. Assumes nothing.
-use Prim.Native.Nat.{ℕ, suc, _+_, _<_, _≤_, min}
+use Prim.Native.Nat.{ℕ, _+_, _<_, _≤_}
 use mathlib.Core.List.{List, [], _∷_, _++_}
 use mathlib.Core.Path.{_≡_, refl, ap}
 use native.Mathlib.Numerals.{add-one}
@@ -10,7 +10,6 @@ use Rattle.bar.specs.declared.bar_state.BarState.{BarState}
 use Rattle.capability.specs.Owner.{capabilitiesOf, capabilityAt, noCapability}
 use Rattle.capability.specs.declared.placed.Placed.{Placed}
 use Rattle.capability.specs.declared.placed.PlacedCapability.{PlacedCapability}
-use Rattle.config.specs.Field.{Field}
 use Rattle.config.specs.State.{barAt}
 use Rattle.config.specs.ConfigByte.{noConfigByte}
 use Rattle.config.specs.PowerOn.{configField, configFields, barField, barFields, startAt, capabilityCount, bodyField, headerFields, capabilityFields, capabilityMasks}

@@ -40,6 +40,11 @@ abbrev pub intxFields : Intx → List Field
 intxFields Absent = []
 intxFields (Pin pin line) = at layout.interruptLine 1 line ∷ at layout.interruptPin 1 pin ∷ []
 
+-- the declared pin
+abbrev pub pinOf : Intx → ℕ
+pinOf Absent = 0
+pinOf (Pin pin line) = pin
+
 -- "Masks: 0x06 at 0x04, 0x04 at 0x05."
 abbrev pub commandFields : List Field
 commandFields = at layout.command 1 (layout.memorySpaceEnable + layout.busMasterEnable) ∷ at (layout.command + 1) 1 layout.interruptDisable ∷ []

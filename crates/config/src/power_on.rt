@@ -1,10 +1,10 @@
 // The image and the write masks that a function has at power-on.
 ghost use mathlib.Core.Path.{_≡_};
-ghost use mathlib.Core.List.{_++_, [], _∷_};
+ghost use mathlib.Core.List.{[], _∷_};
 ghost use Prim.Native.Nat.{_<_};
 ghost use Rattle.address.specs.Layout.{barCount};
 ghost use Rattle.config.specs.ConfigByte.{byteCount};
-ghost use Rattle.config.specs.Field.{laid, at};
+ghost use Rattle.config.specs.Field.{laid};
 ghost use Rattle.config.specs.PowerOn.{identityFields, intxFields, commandFields, byteValues, byteMasks, barField, barFields, capabilityCount, startAt, listFields, headerFields, bodyField, capabilityFields, capabilityMasks, powerOnOf};
 use crate::config_byte::byte_count;
 use crate::function::Contents;

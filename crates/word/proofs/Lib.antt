@@ -7,4 +7,5 @@ pub mod Blends
 pub mod Stores
 pub mod Puts
 pub mod Numbers
+pub mod ReadBytes
 pub mod Merges
