@@ -7,6 +7,7 @@ pub mod Ranges
 pub mod ByteImages
 pub mod Chains
 pub mod Images
+pub mod Fits
 pub mod Slots
 pub mod Commands
 pub mod Resets
