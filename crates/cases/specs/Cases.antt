@@ -1,11 +1,10 @@
 -- The cases of document 01 marked P, as one statement over one list. Each question is put to the definition that the promises cite.
 use Prim.Native.Nat.{ℕ}
-use mathlib.Core.Bool.{Bool, true, false}
-use mathlib.Core.List.{List, [], _∷_, map}
-use mathlib.Core.Path.{_≡_, refl}
-use lib.ListN.{length, take, replicate}
+use mathlib.Core.Bool.{true, false}
+use mathlib.Core.List.{List, [], map, _∷_}
+use lib.ListN.{length, take}
 use Rattle.address.specs.Layout.{configSpaceSize}
-use Rattle.address.specs.Kinds.{slot, offset}
+use Rattle.address.specs.Kinds.{offset}
 use Rattle.address.specs.Check.{accessOf}
 use Rattle.address.specs.declared.access.Access.{Access}
 use Rattle.address.specs.declared.access.Access.the-variants as access
@@ -14,37 +13,27 @@ use Rattle.bar.specs.State.{state, asks}
 use Rattle.bar.specs.declared.bar_state.BarWrite.{BarWrite}
 use Rattle.bar.specs.declared.bar_state.BarWrite.the-variants as barWrite
 use Rattle.bar.specs.declared.bar_state.BarState.{BarState}
-use Rattle.capability.specs.Declaration.{capability, capabilityOf, noneDeclared, addCapabilityOf}
+use Rattle.capability.specs.Declaration.{capabilityOf, noneDeclared}
 use Rattle.capability.specs.Layout.{layoutOf}
-use Rattle.capability.specs.Owner.{noCapability, noEffect}
-use Rattle.capability.specs.Touch.{accessBoth, touchOf}
-use Rattle.capability.specs.declared.declared.Capabilities.{Capabilities}
+use Rattle.capability.specs.Touch.{touchOf}
 use Rattle.capability.specs.declared.declared.CapabilityAnswer.{CapabilityAnswer}
 use Rattle.capability.specs.declared.declared.CapabilityAnswer.the-variants as capabilityAnswer
 use Rattle.capability.specs.declared.layout.LayoutAnswer.{LayoutAnswer}
 use Rattle.capability.specs.declared.layout.LayoutAnswer.the-variants as layoutAnswer
 use Rattle.capability.specs.declared.placed.Placed.{Placed}
 use Rattle.capability.specs.declared.placed.PlacedCapability.{PlacedCapability}
-use Rattle.capability.specs.declared.placed.PlacedEffect.{PlacedEffect}
 use Rattle.capability.specs.declared.effect_access.Touch.{Touch}
 use Rattle.capability.specs.declared.effect_access.Touch.the-variants as touch
-use Rattle.bar.specs.Bar.{memoryBar}
 use Rattle.bar.specs.declared.range.Aperture.{Aperture}
-use Rattle.bar.specs.declared.memory_bar.Request.the-variants.{Auto}
 use Rattle.placement.specs.Answer.{placementOf}
-use Rattle.config.specs.State.{noState}
-use Rattle.config.specs.PowerOn.{powerOnOf}
 use Rattle.config.specs.Read.{readOf}
 use Rattle.config.specs.Write.{writeOf}
-use Rattle.config.specs.Reset.{startOf}
-use Rattle.config.specs.declared.function.Contents.{Contents}
-use Rattle.config.specs.declared.function.Intx.the-variants as intx
-use Rattle.config.specs.declared.state.FunctionState.{FunctionState}
 use Rattle.config.specs.declared.read_step.ReadAnswer.{ReadAnswer}
 use Rattle.config.specs.declared.read_step.ReadAnswer.the-variants as readAnswer
 use Rattle.placement.specs.declared.declared_bars.DeclaredBars.{DeclaredBars}
 use Rattle.placement.specs.declared.answer.PlacementAnswer.{PlacementAnswer}
 use Rattle.placement.specs.declared.answer.PlacementAnswer.the-variants as placementAnswer
+use Rattle.cases.specs.Settings.{declare, effect, withEffect, oneAutomatic, plain, committedAt}
 
 -- what document 01 asks
 pub data Question : Type 0 where
@@ -71,42 +60,6 @@ pub data Reply : Type 0 where
   placement-is : PlacementAnswer → Reply
   reads : ReadAnswer → Reply
 
--- capabilities with bodies of these lengths
-abbrev pub declare : Capabilities → List ℕ → Capabilities
-declare d [] = d
-declare d (n ∷ ns) = declare (addCapabilityOf d (capability 9 n) .state) ns
-
--- an effect at offset 3, of length 2, for both directions, of the capability at 0x40
-abbrev pub effect : PlacedEffect
-effect = record { id = 7; capability = 0; offset = 3; length = 2; access = accessBoth }
-
-abbrev pub withEffect : Placed
-withEffect =
-    record { capabilities = record { id = 9; offset = offset 0x40; length = 8 } ∷ replicate 15 noCapability; count = 1; effects = effect ∷ replicate 31 noEffect; «effect_count» = 1 }
-
--- one automatic BAR of a size, in slot 2 of device 7
-abbrev pub oneAutomatic : ℕ → DeclaredBars
-oneAutomatic size =
-    record { count = 1; functions = record { device = 7; count = 1; bars = memoryBar (slot 2) size Auto ∷ [] } ∷ [] }
-
--- a function with an identity and nothing else, at power-on
-abbrev pub contents : Contents
-contents =
-    record {
-      identity = record { vendor = 0x1234; device = 0x5678; «subsystem_vendor» = 0; subsystem = 0; revision = 1; «base_class» = 1; subclass = 8; «programming_interface» = 2 };
-      intx = intx.Absent;
-      bytes = [];
-      «byte_count» = 0;
-      bodies = replicate 192 0;
-      masks = replicate 192 0;
-    }
-
-abbrev pub nothingPlaced : Placed
-nothingPlaced = record { capabilities = replicate 16 noCapability; count = 0; effects = replicate 32 noEffect; «effect_count» = 0 }
-
-abbrev pub plain : FunctionState
-plain = startOf (powerOnOf contents (replicate 6 noState) nothingPlaced) (replicate 6 noState) nothingPlaced
-
 abbrev pub answer : Question → Reply
 answer (mask size) = number-is (sizeMask size)
 answer (dword d) = asks-for (classOf d)
@@ -128,10 +81,6 @@ asked (q gives r) = answer q
 
 abbrev pub told : Case → Reply
 told (q gives r) = r
-
--- a BAR of a size, committed at an address
-abbrev pub committedAt : ℕ → ℕ → Bool → BarState
-committedAt size address probing = state (record { slot = slot 0; size = size; address = 0 }) address probing
 
 unfoldable pub cases : List Case
 cases =
