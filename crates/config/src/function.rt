@@ -6,6 +6,7 @@ pub const CONFIG_BYTE_LIMIT: usize = 32;
 // From 0x40 on, where capabilities lie.
 pub const BODY_SPACE: usize = 192;
 
+#[repr(C)]
 pub struct Identity {
     pub vendor: u16,
     pub device: u16,
@@ -22,6 +23,7 @@ pub enum Intx {
     Pin { pin: u8, line: u8 },
 }
 
+#[repr(C)]
 pub struct ConfigByte {
     pub offset: ConfigOffset,
     pub value: u8,

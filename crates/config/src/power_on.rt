@@ -19,6 +19,7 @@ use capability::CAPABILITY_HEADER_SIZE;
 use capability::CAPABILITY_LIMIT;
 use capability::Placed;
 
+#[repr(C)]
 pub struct PowerOn {
     pub image: [u8; 256],
     pub mask: [u8; 256],

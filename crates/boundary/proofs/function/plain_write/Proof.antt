@@ -1,0 +1,13 @@
+-- `plain_write` blanks what an effect would tell. Assumes nothing.
+use borrow.Author.Needs.{needs}
+use Rattle.boundary.proofs.function.plain_write.Statement.{statement}
+use Rattle.boundary.proofs.function.plain_write.Tie as tie
+
+no-region-requires : tie.Need-no-region-requires
+no-region-requires c κs = search needs
+
+returns : tie.Need-returns
+returns c = rw (c .no-region .ensures)
+
+pub plain-write-spec : {M : Type 1} → statement M
+plain-write-spec = tie.close (tie.spec no-region-requires returns)

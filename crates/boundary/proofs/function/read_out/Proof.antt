@@ -1,0 +1,53 @@
+-- `read_out` goes by the four answers. Assumes nothing.
+use borrow.Author.Needs.{needs}
+use Rattle.boundary.proofs.function.read_out.Statement.{statement}
+use Rattle.boundary.proofs.function.read_out.Tie as tie
+
+enum-known-answer : tie.Need-enum-known-answer
+enum-known-answer c = search needs
+
+plain-read-requires : tie.Need-plain-read-requires
+plain-read-requires c κs = search needs
+
+enum-known-answer-2 : tie.Need-enum-known-answer-2
+enum-known-answer-2 c = search needs
+
+enum-told : tie.Need-enum-told
+enum-told c = search needs
+
+plain-read-requires-2 : tie.Need-plain-read-requires-2
+plain-read-requires-2 c κs = search needs
+
+enum-told-2 : tie.Need-enum-told-2
+enum-told-2 c = search needs
+
+plain-read-requires-3 : tie.Need-plain-read-requires-3
+plain-read-requires-3 c κs = search needs
+
+returns : tie.Need-returns
+returns c = rw (c .before .before .answer .given .1) (c .plain-read .ensures)
+
+returns-2 : tie.Need-returns-2
+returns-2 c = rw (c .before .answer2 .given .1)
+
+returns-3 : tie.Need-returns-3
+returns-3 c = rw (c .before .enum-told .given .1) (c .plain-read2 .ensures)
+
+returns-4 : tie.Need-returns-4
+returns-4 c = rw (c .before .enum-told2 .given .1) (c .plain-read3 .ensures)
+
+pub read-out-spec : {M : Type 1} → statement M
+read-out-spec =
+    tie.close
+    (tie.spec
+    enum-known-answer
+    plain-read-requires
+    enum-known-answer-2
+    enum-told
+    plain-read-requires-2
+    enum-told-2
+    plain-read-requires-3
+    returns
+    returns-2
+    returns-3
+    returns-4)

@@ -1,0 +1,67 @@
+-- `functions_in` fills the list function by function. Assumes nothing.
+use Prim.Native.Nat.{_-_, _≤_}
+use mathlib.Core.Path.{_≡_, _∙_}
+use borrow.Author.Needs.{needs}
+use native.Mathlib.Omega.{arith}
+use Rattle.placement.specs.Limits.{functionLimit}
+use Rattle.placement.proofs.Fills.{filled, filled-none, filled-more, filled-all}
+use Rattle.boundary.specs.Places.{functionIn, functionsIn}
+use Rattle.boundary.proofs.places.functions_in.Statement.{statement}
+use Rattle.boundary.proofs.places.functions_in.Tie as tie
+
+abbrev Inv-loop : tie.InvT-loop
+Inv-loop request functions₀ i₀ functions i = (i ≤ functionLimit) × (functions ≡ filled (functionIn request 0) (functionIn request) functionLimit i)
+
+abbrev μ-loop : tie.MeasureT-loop
+μ-loop request functions₀ i₀ functions i = functionLimit - i
+
+function-in-requires : tie.Need-function-in-requires Inv-loop μ-loop
+function-in-requires c κs = search needs
+
+loop-holds : tie.Need-loop-holds Inv-loop μ-loop
+loop-holds c = let n = c .before .args .request in (omega arith, rw (c .function-in .ensures) (filled-none (functionIn n 0) (functionIn n) functionLimit))
+
+function-in-requires-2 : tie.Need-function-in-requires-2 Inv-loop μ-loop
+function-in-requires-2 c κs = search needs
+
+mul-functions : tie.Need-mul-functions Inv-loop μ-loop
+mul-functions c = omega arith
+
+array-set-from-functions : tie.Need-array-set-from-functions Inv-loop μ-loop
+array-set-from-functions c = omega arith
+
+add-i : tie.Need-add-i Inv-loop μ-loop
+add-i c = omega arith
+
+loop-less : tie.Need-loop-less Inv-loop μ-loop
+loop-less c = omega arith
+
+loop-again : tie.Need-loop-again Inv-loop μ-loop
+loop-again c =
+    let l = c .before .before .loop in
+    let n = c .before .before .before .before .args .request in
+    (omega arith, rw (l .inv .1) (filled-more (functionIn n 0) (functionIn n) functionLimit (l .i) (c .function-in2 .result) (omega arith) (c .function-in2 .ensures)))
+
+returns : tie.Need-returns Inv-loop μ-loop
+unfolding functionsIn
+returns c =
+    let l = c .before .loop in
+    let n = c .before .before .before .args .request in
+    let e : l .i ≡ functionLimit = omega arith in
+    l .inv .1 ∙ rw e (filled-all (functionIn n 0) (functionIn n) functionLimit)
+
+pub functions-in-spec : {M : Type 1} → statement M
+functions-in-spec =
+    tie.close
+    (tie.spec
+    Inv-loop
+    μ-loop
+    function-in-requires
+    loop-holds
+    function-in-requires-2
+    mul-functions
+    array-set-from-functions
+    add-i
+    loop-less
+    loop-again
+    returns)

@@ -1,0 +1,83 @@
+-- The steps of a function, as numbers: document 01's number for each refusal, 0 for none, and the values of each answer.
+use Prim.Native.Nat.{ℕ}
+use mathlib.Core.Bool.{Bool, true, false}
+use Rattle.address.specs.declared.slot.SlotAnswer.{SlotAnswer}
+use Rattle.address.specs.declared.slot.SlotAnswer.the-variants as slotAnswer
+use Rattle.bar.specs.declared.bar_state.Relocation.{Relocation}
+use Rattle.bar.specs.declared.bar_state.Relocation.the-variants as bus
+use Rattle.capability.specs.Owner.{noEffect}
+use Rattle.capability.specs.declared.snapshot.Snapshot.{Snapshot}
+use Rattle.config.specs.Read.{readRefusal}
+use Rattle.config.specs.Write.{writeRefusal, relocatedAt}
+use Rattle.config.specs.Reset.{resetRefusal}
+use Rattle.config.specs.declared.state.FunctionState.{FunctionState}
+use Rattle.config.specs.declared.read_step.ReadAnswer.{ReadAnswer}
+use Rattle.config.specs.declared.read_step.ReadAnswer.the-variants as read
+use Rattle.config.specs.declared.read_step.ReadReply.{ReadReply}
+use Rattle.config.specs.declared.write_step.WriteAnswer.{WriteAnswer}
+use Rattle.config.specs.declared.write_step.WriteAnswer.the-variants as write
+use Rattle.config.specs.declared.write_step.WriteDone.{WriteDone}
+use Rattle.config.specs.declared.reset_step.ResetDone.{ResetDone}
+use Rattle.boundary.specs.declared.function.ReadOut.{ReadOut}
+use Rattle.boundary.specs.declared.function.WriteOut.{WriteOut}
+use Rattle.boundary.specs.declared.function.ResetOut.{ResetOut}
+
+-- a read that no effect answers
+abbrev pub readRefused : ℕ → ℕ → Snapshot → ReadOut
+readRefused n v b =
+    record { refusal = n; inside = false; value = v; «capability_id» = 0; region = noEffect; offset = 0; body = b }
+
+abbrev pub readNumbers : Snapshot → ReadAnswer → ReadOut
+readNumbers b (read.Value v) = readRefused (readRefusal (read.Value v)) v b
+readNumbers b (read.Effect id region offset) =
+    record { refusal = readRefusal (read.Effect id region offset); inside = true; value = 0; «capability_id» = id; region = region; offset = offset; body = b }
+readNumbers b read.BadAccess = readRefused (readRefusal read.BadAccess) 0 b
+readNumbers b read.BadEffect = readRefused (readRefusal read.BadEffect) 0 b
+
+abbrev pub readReplyNumbers : ReadReply → ReadOut
+readReplyNumbers r = readNumbers (r .body) (r .answer)
+
+-- what a write did: stored, started a probe, asks for a candidate, is inside an effect; 0 where it is refused
+abbrev pub kindOf : WriteAnswer → ℕ
+kindOf write.Stored = 0
+kindOf (write.Probing slot) = 1
+kindOf (write.Candidate slot address) = 2
+kindOf (write.Effect id region offset) = 3
+kindOf write.BadAccess = 0
+kindOf write.BadEffect = 0
+kindOf write.Exhausted = 0
+
+-- a write that no effect answers
+abbrev pub writeBlank : ℕ → ℕ → ℕ → ℕ → Snapshot → FunctionState → WriteOut
+writeBlank n kind slot address b f =
+    record { refusal = n; kind = kind; slot = slot; address = address; «capability_id» = 0; region = noEffect; offset = 0; body = b; state = f }
+
+-- an answer with no more to tell than its number and its kind
+abbrev pub writePlain : WriteAnswer → Snapshot → FunctionState → WriteOut
+writePlain a b f = writeBlank (writeRefusal a) (kindOf a) 0 0 b f
+
+abbrev pub writeNumbers : Snapshot → FunctionState → WriteAnswer → WriteOut
+writeNumbers b f write.Stored = writePlain write.Stored b f
+writeNumbers b f (write.Probing slot) = writeBlank (writeRefusal (write.Probing slot)) (kindOf (write.Probing slot)) slot 0 b f
+writeNumbers b f (write.Candidate slot address) = writeBlank (writeRefusal (write.Candidate slot address)) (kindOf (write.Candidate slot address)) slot address b f
+writeNumbers b f (write.Effect id region offset) =
+    record { refusal = writeRefusal (write.Effect id region offset); kind = kindOf (write.Effect id region offset); slot = 0; address = 0; «capability_id» = id; region = region; offset = offset; body = b; state = f }
+writeNumbers b f write.BadAccess = writePlain write.BadAccess b f
+writeNumbers b f write.BadEffect = writePlain write.BadEffect b f
+writeNumbers b f write.Exhausted = writePlain write.Exhausted b f
+
+abbrev pub writeDoneNumbers : WriteDone → WriteOut
+writeDoneNumbers d = writeNumbers (d .reply .body) (d .state) (d .reply .answer)
+
+-- what the bus said of a candidate
+abbrev pub relocation : ℕ → Bool → Relocation
+relocation address true = bus.Accepted address
+relocation address false = bus.Kept
+
+-- the second step; "slot above 5" is no slot, and nothing changes
+abbrev pub finished : FunctionState → Relocation → SlotAnswer → FunctionState
+finished f r (slotAnswer.Good s) = relocatedAt f s r
+finished f r slotAnswer.Bad = f
+
+abbrev pub resetNumbers : ResetDone → ResetOut
+resetNumbers d = record { refusal = resetRefusal (d .answer); state = d .state }

@@ -1,0 +1,61 @@
+-- Placement in numbers: the BARs that they declare, and what is answered.
+use Prim.Native.Nat.{ℕ, _+_, _*_}
+use mathlib.Core.Bool.{Bool, false, cond}
+use mathlib.Core.List.{List}
+use lib.ListN.{getD}
+use Rattle.word.specs.Table.{table}
+use Rattle.address.specs.Layout.{barCount}
+use Rattle.address.specs.Kinds.{slot}
+use Rattle.bar.specs.Bar.{barOf, noBar}
+use Rattle.bar.specs.declared.memory_bar.Request.{Request}
+use Rattle.bar.specs.declared.memory_bar.Request.the-variants.{Auto, Fixed}
+use Rattle.bar.specs.declared.memory_bar.MemoryBar.{MemoryBar}
+use Rattle.bar.specs.declared.memory_bar.BarAnswer.{BarAnswer}
+use Rattle.bar.specs.declared.memory_bar.BarAnswer.the-variants.{Good, Bad}
+use Rattle.placement.specs.Limits.{functionLimit}
+use Rattle.placement.specs.Answer.{placementOf}
+use Rattle.placement.specs.declared.declared_bars.FunctionBars.{FunctionBars}
+use Rattle.placement.specs.declared.declared_bars.DeclaredBars.{DeclaredBars}
+use Rattle.placement.specs.declared.answer.Placement.{Placement}
+use Rattle.placement.specs.declared.answer.PlacementAnswer.{PlacementAnswer}
+use Rattle.placement.specs.declared.answer.PlacementAnswer.the-variants.{Placed, Refused}
+use Rattle.boundary.specs.declared.places.PlaceNumbers.{PlaceNumbers}
+use Rattle.boundary.specs.declared.places.PlacedOut.{PlacedOut}
+
+-- "a BAR's request is automatic or a fixed address"
+abbrev pub requestOf : Bool → ℕ → Request
+requestOf fixed address = cond fixed (Fixed address) Auto
+
+-- a size that refusal 7 is given for, 0 among them, is no BAR
+abbrev pub barOr : BarAnswer → MemoryBar
+barOr (Good b) = b
+barOr Bad = noBar
+
+-- place i · 6 + s of the arrays is slot s of function i
+unfoldable pub barIn : PlaceNumbers → ℕ → ℕ → MemoryBar
+barIn n i s =
+    barOr (barOf (slot s) (getD (n .sizes) (i * barCount + s) 0) (requestOf (getD (n .fixed) (i * barCount + s) false) (getD (n .addresses) (i * barCount + s) 0)))
+
+unfoldable pub barsIn : PlaceNumbers → ℕ → List MemoryBar
+barsIn n i = table barCount (barIn n i)
+
+abbrev pub functionIn : PlaceNumbers → ℕ → FunctionBars
+functionIn n i = record { device = getD (n .devices) i 0; count = barCount; bars = barsIn n i }
+
+unfoldable pub functionsIn : PlaceNumbers → List FunctionBars
+functionsIn n = table functionLimit (functionIn n)
+
+-- the declaration that the numbers say
+abbrev pub declaredBars : PlaceNumbers → DeclaredBars
+declaredBars n = record { count = n .count; functions = functionsIn n }
+
+-- document 01's number for each answer, 0 where it is no refusal
+abbrev pub placedOut : PlacementAnswer → List ℕ → PlacedOut
+placedOut Placed addresses = record { refusal = 0; device = 0; slot = 0; addresses = addresses }
+placedOut (Refused number device s) addresses = record { refusal = number; device = device; slot = s; addresses = addresses }
+
+abbrev pub outOf : Placement → PlacedOut
+outOf p = placedOut (p .answer) (p .addresses)
+
+unfoldable pub placeOf : PlaceNumbers → PlacedOut
+placeOf n = outOf (placementOf (record { start = n .start; end = n .end }) (declaredBars n))

@@ -1,0 +1,32 @@
+-- Checks and registers, as numbers.
+use Prim.Native.Nat.{ℕ}
+use mathlib.Core.Bool.{Bool, true, false}
+use Rattle.address.specs.Kinds.{slot}
+use Rattle.address.specs.declared.access.Access.{Access}
+use Rattle.address.specs.declared.access.Access.the-variants as access
+use Rattle.bar.specs.State.{state}
+use Rattle.bar.specs.declared.bar_state.BarState.{BarState}
+use Rattle.bar.specs.declared.bar_state.BarWrite.{BarWrite}
+use Rattle.bar.specs.declared.bar_state.BarWrite.the-variants as barWrite
+use Rattle.capability.specs.declared.declared.CapabilityAnswer.{CapabilityAnswer}
+use Rattle.capability.specs.declared.declared.CapabilityAnswer.the-variants as capabilityAnswer
+use Rattle.boundary.specs.declared.scalar.BarAsked.{BarAsked}
+
+-- an access passes, or is refused, 18
+abbrev pub passes : Access → Bool
+passes (access.Good o w) = true
+passes access.Refused = false
+
+-- a body passes, or is refused, 10
+abbrev pub bodyPasses : CapabilityAnswer → Bool
+bodyPasses (capabilityAnswer.Good capability) = true
+bodyPasses capabilityAnswer.Bad = false
+
+-- a BAR of a size at an address, planned there too
+unfoldable pub barWith : ℕ → ℕ → Bool → BarState
+barWith size address probing = state (record { slot = slot 0; size = size; address = address }) address probing
+
+-- a probe, with no address, or the address of a candidate
+abbrev pub askedNumbers : BarWrite → BarAsked
+askedNumbers barWrite.Probe = record { probe = true; address = 0 }
+askedNumbers (barWrite.Relocate a) = record { probe = false; address = a }

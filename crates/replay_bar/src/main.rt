@@ -1,0 +1,81 @@
+// Replays what axdevice answers about BAR registers.
+// A record: size, address, probing, lane, width, value; what the register shows; 0 probe or 1 relocate, and the candidate.
+use address::Slot;
+use bar::BarState;
+use bar::BarWrite;
+use bar::Plan;
+
+// The BAR as it stands before the write.
+fn bar_now(size: u64, address: u64, probing: u64) -> BarState {
+    let plan = Plan {
+        slot: Slot::zero(),
+        size,
+        address,
+    };
+    let bar = BarState::new(plan);
+    if probing == 0 {
+        return bar;
+    }
+    bar.set_probe()
+}
+
+// Whether a write asks for what the record says.
+fn same_write(asked: BarWrite, kind: u64, candidate: u64) -> bool {
+    match asked {
+        BarWrite::Probe => kind == 0,
+        BarWrite::Relocate(address) => {
+            if kind == 1 {
+                return address == candidate;
+            }
+            false
+        }
+    }
+}
+
+// Whether the library shows and asks what the record says.
+fn same_bar(record: &[u8]) -> bool {
+    let size = word::read(record, 0, 8);
+    let address = word::read(record, 8, 8);
+    let probing = word::read(record, 16, 8);
+    let bar = bar_now(size, address, probing);
+    let shown = bar.raw_dword();
+    if shown != word::read(record, 48, 8) {
+        return false;
+    }
+    let lane = word::read(record, 24, 8) as usize;
+    let width = word::read(record, 32, 8) as usize;
+    let asked = bar.write(lane, width, word::read(record, 40, 8));
+    same_write(asked, word::read(record, 56, 8), word::read(record, 64, 8))
+}
+
+// Whether the next record is there and the library answers as it says.
+fn same() -> bool {
+    let mut record = [0u8; 72];
+    let whole = replay::next(&mut record);
+    if !whole {
+        return false;
+    }
+    same_bar(&record)
+}
+
+// How many of so many records differ; one that is missing differs too.
+fn differing(records: u64) -> u64 {
+    let mut left = records;
+    let mut differ: u64 = 0;
+    while left > 0 {
+        let agrees = same();
+        if !agrees {
+            differ += 1;
+        }
+        left -= 1;
+    }
+    differ
+}
+
+fn main() {
+    let mut header = [0u8; 72];
+    replay::next(&mut header);
+    let records = replay::records(&header);
+    let differ = differing(records);
+    replay::report(b"replay_bar", records, differ);
+}
