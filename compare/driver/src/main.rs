@@ -1,0 +1,65 @@
+//! The Rust of axdevice beside document 01 and beside the proved library.
+
+mod cases;
+mod findings;
+
+use std::process::ExitCode;
+
+use driver::{Plan, Sides};
+use model::Model;
+use oracle::Oracle;
+use ours::Ours;
+
+fn main() -> ExitCode {
+    let mut words = std::env::args().skip(1);
+    let command = words.next().unwrap_or_default();
+    let plan = match Plan::from_words(words) {
+        Ok(plan) => plan,
+        Err(word) => {
+            eprintln!("compare: not understood: {word}");
+            return ExitCode::from(2);
+        }
+    };
+    let fine = match command.as_str() {
+        "run" => (!plan.wants("model") || with_the_model(&plan)) && (!plan.wants("ours") || with_ours(&plan)),
+        "findings" => findings::all_as_noted(),
+        "sample" => sampled(&plan),
+        _ => {
+            eprintln!("compare: run, findings or sample");
+            return ExitCode::from(2);
+        }
+    };
+    if fine { ExitCode::SUCCESS } else { ExitCode::FAILURE }
+}
+
+fn with_the_model(plan: &Plan) -> bool {
+    plan.compare(Sides {
+        left: ("the Rust", &mut Oracle),
+        second: None,
+        right: ("the model", &mut Model),
+        lacks: |rule| (rule == "first_bad_byte").then_some("such rule in the Rust"),
+    })
+}
+
+/// The model speaks where the Rust has no such input, as for odd widths.
+fn with_ours(plan: &Plan) -> bool {
+    plan.compare(Sides {
+        left: ("the Rust", &mut Oracle),
+        second: Some(("the model", &mut Model)),
+        right: ("ours", &mut Ours),
+        lacks: ours::lacks,
+    })
+}
+
+/// Into the folder that it is run in.
+fn sampled(plan: &Plan) -> bool {
+    for (name, bytes) in driver::sample::files(&mut Oracle, plan.seed) {
+        let file = format!("{name}.stdin");
+        if let Err(why) = std::fs::write(&file, &bytes) {
+            eprintln!("compare: {file}: {why}");
+            return false;
+        }
+        println!("{file}: {} bytes", bytes.len());
+    }
+    true
+}
