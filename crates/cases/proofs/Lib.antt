@@ -1,2 +1,3 @@
 -- The cases, proved.
 pub mod Right
+pub mod Beside

@@ -1,5 +1,7 @@
 // What is declared of a function beside its BARs and capabilities.
 use address::ConfigOffset;
+use bar::MemoryBar;
+use capability::Capabilities;
 
 pub const CONFIG_BYTE_LIMIT: usize = 32;
 
@@ -38,4 +40,12 @@ pub struct Contents {
     pub byte_count: usize,
     pub bodies: [u8; BODY_SPACE],
     pub masks: [u8; BODY_SPACE],
+}
+
+// A function as it is declared; BARs by slot, a blank where there is none.
+pub struct Function {
+    pub device: u8,
+    pub contents: Contents,
+    pub bars: [MemoryBar; 6],
+    pub capabilities: Capabilities,
 }

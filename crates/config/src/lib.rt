@@ -16,6 +16,7 @@ pub use function::BODY_SPACE;
 pub use function::CONFIG_BYTE_LIMIT;
 pub use function::ConfigByte;
 pub use function::Contents;
+pub use function::Function;
 pub use function::Identity;
 pub use function::Intx;
 pub use power_on::PowerOn;

@@ -1,0 +1,6 @@
+-- Beside the P cases: the Run case's three addresses, and one refusal each of 14, 15, 16 and 17. Assumes nothing.
+use mathlib.Core.Path.{_≡_}
+use Rattle.placement.proofs.Examples.{asked, told, examples}
+
+pub placements : asked ≡ told
+placements = examples
