@@ -1,4 +1,4 @@
-//! The cases of document 01 and the findings of NOTES.md, replayed on both sides.
+//! The cases of document 01 and the findings of docs/DIFFERENCES.md, replayed on both sides.
 
 use driver::Shortened;
 use model::Model;

@@ -76,11 +76,11 @@ impl Plan {
         })
     }
 
-    /// Goes on until the left side, or who stands in for it, was asked so many; some neither can be asked.
+    /// Goes on until so many were asked, some of them the left side cannot be; or the second, where the left side has none.
     fn until(&self, count: u64, duel: &mut Duel, mut one: impl FnMut(&mut Duel) -> Checked) -> Checked {
-        let (enough, beyond) = (duel.asked + count, duel.by_second + count);
+        let (began, beyond) = (duel.asked, duel.by_second + count);
         for _ in 0..8 * count {
-            if duel.asked == enough || duel.by_second == beyond {
+            if duel.asked == began + count || duel.asked == began && duel.by_second == beyond {
                 break;
             }
             one(duel)?;
@@ -96,7 +96,7 @@ impl Plan {
     pub fn compare(&self, sides: Sides) -> bool {
         let Sides { left: (left_name, left), mut second, right: (right_name, right), lacks } = sides;
         let began = Instant::now();
-        let (mut all, mut beyond) = (0, 0);
+        let (mut all, mut beyond, mut without) = (0, 0, 0);
         println!("{left_name} and {right_name}, seed {}", self.seed);
         if let Some((name, _)) = &second {
             println!("Where {left_name} has no such input, {name} is asked: column `beyond`.");
@@ -105,6 +105,7 @@ impl Plan {
         for rule in self.rules() {
             if let Some(what) = lacks(rule.name) {
                 println!("{:18}not compared: there is no {what}", rule.name);
+                without += 1;
                 continue;
             }
             let another: Option<&mut dyn Rules> = match &mut second {
@@ -126,7 +127,9 @@ impl Plan {
             beyond += by_second;
         }
         let seconds = began.elapsed().as_secs_f64();
-        println!("{all} inputs and {beyond} beyond, no difference, {seconds:.0} seconds\n");
+        println!(
+            "{all} inputs and {beyond} beyond, no difference, {without} rules not compared, {seconds:.0} seconds\n"
+        );
         true
     }
 }

@@ -60,7 +60,7 @@ impl Rules for Oracle {
         placement::place(aperture, wishes)
     }
 
-    /// The Rust has other rules for config bytes: NOTES.md, finding 3.
+    /// The Rust has other rules for config bytes: docs/DIFFERENCES.md, finding 3.
     fn first_bad_byte(&mut self, _: &Function) -> Asked<Option<usize>> {
         None
     }
