@@ -1,4 +1,4 @@
--- What a checked access is: aligned, in the space, and inside one dword. Assumes nothing.
+-- What a checked access is: aligned, in the space, and inside one dword.
 use Prim.Native.Nat.{ℕ, _+_, _-_, _*_, _/_, _%_, _<_, _≤_}
 use mathlib.Core.Bool.{Bool, true, false, _&&_, cond, and-false}
 use mathlib.Core.Path.{_≡_, refl, sym, _∙_}

@@ -1,4 +1,4 @@
--- What a config offset's constructor gives. Assumes nothing.
+-- What a config offset's constructor gives.
 use Prim.Native.Nat.{ℕ, _<_, _≤_}
 use mathlib.Core.Bool.{Bool, true, false, cond}
 use mathlib.Core.Path.{_≡_, refl}

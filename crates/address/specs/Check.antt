@@ -2,6 +2,7 @@
 use Prim.Native.Nat.{ℕ, _%_}
 use mathlib.Core.Bool.{Bool, _&&_, cond}
 use lib.Dec.{ltb, eqb}
+use Rattle.refusal.specs.Number.{accepted, badAccess}
 use Rattle.word.specs.Width.{widthOk}
 use Rattle.address.specs.Kinds.{offset}
 use Rattle.address.specs.declared.access.Access.{Access}
@@ -18,3 +19,8 @@ accessOk space o w = widthOk mostWidth w && (ltb o space && eqb (o % w) 0)
 -- good with what was asked, or refusal 18
 unfoldable pub accessOf : ℕ → ℕ → ℕ → Access
 accessOf space o w = cond (accessOk space o w) (access.Good (offset o) w) access.Refused
+
+-- document 01's number for each answer
+abbrev pub accessNumber : Access → ℕ
+accessNumber (access.Good o w) = accepted
+accessNumber access.Refused = badAccess

@@ -2,6 +2,7 @@
 use Prim.Native.Nat.{ℕ, _+_, _*_, _%_}
 use mathlib.Core.Bool.{cond}
 use lib.Dec.{ltb}
+use Rattle.refusal.specs.Number.{accepted, badDeviceOrSlot}
 use Rattle.address.specs.Layout.{barCount, barStart, barRegisterSize}
 use Rattle.address.specs.declared.slot.Slot.{Slot}
 use Rattle.address.specs.declared.slot.SlotAnswer.{SlotAnswer}
@@ -16,6 +17,11 @@ slot v = record { 0 = v }
 -- "slot above 5" is no slot
 unfoldable pub slotOf : ℕ → SlotAnswer
 slotOf v = cond (ltb v barCount) (slotAnswer.Good (slot v)) slotAnswer.Bad
+
+-- document 01's number for each answer
+abbrev pub slotNumber : SlotAnswer → ℕ
+slotNumber (slotAnswer.Good s) = accepted
+slotNumber slotAnswer.Bad = badDeviceOrSlot
 
 -- a slot's place in an array of six
 abbrev pub indexOf : Slot → ℕ

@@ -1,4 +1,5 @@
--- Places in config space, and the check of an access to it.
+-- Places in config space, how many there can be, and the check of an access.
 pub mod Layout
+pub mod Limits
 pub mod Kinds
 pub mod Check

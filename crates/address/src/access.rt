@@ -1,6 +1,6 @@
 // The check of a config access: refusal 18.
 ghost use mathlib.Core.Path.{_≡_};
-ghost use Rattle.address.specs.Check.{accessOf};
+ghost use Rattle.address.specs.Check.{accessOf, accessNumber};
 use crate::config_layout::ACCESS_WIDTH_MOST;
 use crate::offset::ConfigOffset;
 use crate::offset::OffsetAnswer;
@@ -8,6 +8,21 @@ use crate::offset::OffsetAnswer;
 pub enum Access {
     Good { offset: ConfigOffset, width: usize },
     Refused,
+}
+
+impl Access {
+    // Document 01's number for the answer.
+    pub fn number(self) -> u8
+        ensures { λ r. ⌜ r ≡ accessNumber self ⌝ }
+    {
+        match self {
+            Access::Good {
+                offset: _,
+                width: _,
+            } => refusal::ACCEPTED,
+            Access::Refused => refusal::BAD_ACCESS,
+        }
+    }
 }
 
 // Whether an access of `width` bytes at `offset` is one in a config space of `space` bytes.

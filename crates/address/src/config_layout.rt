@@ -1,6 +1,9 @@
 // The config layout: offsets and bits of a type 0 header.
 pub const CONFIG_SPACE_SIZE: u16 = 0x100;
 
+// The same as the length of an image.
+pub const CONFIG_SPACE_BYTES: usize = CONFIG_SPACE_SIZE as usize;
+
 pub const CONFIG_DWORD_SIZE: usize = 4;
 
 pub const ACCESS_WIDTH_MOST: usize = 4;

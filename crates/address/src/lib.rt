@@ -1,6 +1,7 @@
-// Places in config space: slots, offsets, the layout, and the check of an access.
+// Places in config space: slots, offsets, the layout, the limits, and the check of an access.
 mod access;
 pub mod config_layout;
+pub mod limits;
 mod offset;
 mod slot;
 

@@ -1,6 +1,6 @@
 // A byte offset in config space.
 ghost use mathlib.Core.Path.{_≡_};
-ghost use Rattle.address.specs.Kinds.{offsetOf};
+ghost use Rattle.address.specs.Kinds.{offset, offsetOf};
 
 #[repr(C)]
 pub struct ConfigOffset(u16);
@@ -20,6 +20,13 @@ impl ConfigOffset {
         } else {
             OffsetAnswer::Bad
         }
+    }
+
+    // The first offset, which also stands in a blank.
+    pub fn zero() -> ConfigOffset
+        ensures { λ r. ⌜ r ≡ offset 0 ⌝ }
+    {
+        ConfigOffset(0)
     }
 
     pub fn value(self) -> u16

@@ -1,6 +1,6 @@
 // A BAR slot, 0 to 5.
 ghost use mathlib.Core.Path.{_≡_};
-ghost use Rattle.address.specs.Kinds.{slot, slotOf, indexOf, registerOf};
+ghost use Rattle.address.specs.Kinds.{slot, slotOf, slotNumber, indexOf, registerOf};
 use crate::config_layout::BAR_COUNT;
 use crate::config_layout::CONFIG_BAR_REGISTER_SIZE;
 use crate::config_layout::CONFIG_BAR_START;
@@ -11,6 +11,18 @@ pub struct Slot(u8);
 pub enum SlotAnswer {
     Good(Slot),
     Bad,
+}
+
+impl SlotAnswer {
+    // Document 01's number for the answer.
+    pub fn number(self) -> u8
+        ensures { λ r. ⌜ r ≡ slotNumber self ⌝ }
+    {
+        match self {
+            SlotAnswer::Good(_) => refusal::ACCEPTED,
+            SlotAnswer::Bad => refusal::BAD_DEVICE_OR_SLOT,
+        }
+    }
 }
 
 impl Slot {

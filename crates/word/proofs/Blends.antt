@@ -1,4 +1,4 @@
--- One byte under a mask, bit by bit: where the mask has a one the bit is the value's, elsewhere the old one's. Assumes nothing.
+-- One byte under a mask, bit by bit: where the mask has a one the bit is the value's, elsewhere the old one's.
 use Prim.Native.Nat.{ℕ, zero, suc, _+_, _-_, _*_, _/_, _%_, _^_, _<_, _≤_, min, max}
 use mathlib.Core.Bool.{cond}
 use mathlib.Core.Path.{_≡_, refl, sym, ap, _∙_}
@@ -6,11 +6,8 @@ use native.Mathlib.Nat.{div-one, div-div-eq-div-mul, pow-succ', mod-lt}
 use native.Mathlib.Omega.{arith}
 use lib.Dec.{eqb}
 use lib.Bits.{bitAnd, bitOr, and-shr, or-shr, and-mod, or-mod, and-mask, and-zero-r, or-zero-r, or-zero-l, or-lt, and-le-r, and-le-l}
+use Rattle.word.specs.Bit.{bit}
 use Rattle.word.specs.Store.{blend}
-
--- bit i of a number
-abbrev pub bit : ℕ → ℕ → ℕ
-bit n i = n / 2 ^ i % 2
 
 -- a byte stays a byte
 pub blend-byte : (mask old value : ℕ) → mask < 256 → blend mask old value < 256

@@ -1,6 +1,8 @@
 -- The laws that the crates above cite.
 pub mod Tests
+pub mod Intervals
 pub mod Tables
+pub mod Searches
 pub mod Mapped
 pub mod Widths
 pub mod Blends

@@ -1,4 +1,4 @@
--- Bytes put in place of a dword's: exactly the named lanes change. Assumes nothing.
+-- Bytes put in place of a dword's: exactly the named lanes change.
 use Prim.Native.Nat.{ℕ, zero, suc, _+_, _-_, _*_, _/_, _%_, _^_, _<_, _≤_, min}
 use mathlib.Core.Bool.{true, false, cond}
 use mathlib.Core.List.{List, [], _∷_}
@@ -9,9 +9,11 @@ use native.Mathlib.Omega.{arith}
 use lib.ListN.{length, getD, take, replicate, getD-replicate}
 use lib.Seq.{take-all}
 use Rattle.word.specs.Table.{table}
-use Rattle.word.specs.Number.{number, byteOf, bytesOf, covers, mergedByte, merge}
+use Rattle.word.specs.Interval.{covers}
+use Rattle.word.specs.Number.{number, byteOf, bytesOf, mergedByte, merge}
 use Rattle.word.specs.Store.{storedByte, stored}
-use Rattle.word.proofs.Tests.{true-or-false, below-or-not, covers-in, covers-before, covers-after}
+use Rattle.word.proofs.Tests.{true-or-false, below-or-not}
+use Rattle.word.proofs.Intervals.{covers-in, covers-before, covers-after}
 use Rattle.word.proofs.Tables.{length-table, getD-table, table-ext, table-below}
 use Rattle.word.proofs.Blends.{blend-all}
 use Rattle.word.proofs.Numbers.{number-lt, byte-number, number-bytes}

@@ -1,4 +1,4 @@
--- Numbers of little-endian bytes, over the width. Assumes nothing.
+-- Numbers of little-endian bytes, over the width.
 use Prim.Native.Nat.{ℕ, zero, suc, _+_, _-_, _*_, _/_, _%_, _^_, _<_, _≤_, min}
 use mathlib.Core.List.{List, [], _∷_}
 use mathlib.Core.Logic.{⊎-elim}

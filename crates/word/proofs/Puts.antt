@@ -1,4 +1,4 @@
--- Bytes put in their place, by index. Assumes nothing.
+-- Bytes put in their place, by index.
 use Prim.Native.Nat.{ℕ, _+_, _-_, _/_, _%_, _^_, _<_, _≤_, min}
 use mathlib.Core.Bool.{cond}
 use mathlib.Core.List.{List}
@@ -7,9 +7,11 @@ use mathlib.Core.Path.{_≡_, refl, sym, _∙_}
 use native.Mathlib.Omega.{arith}
 use lib.ListN.{length, getD, set}
 use Rattle.word.specs.Table.{table}
-use Rattle.word.specs.Number.{byteOf, covers}
+use Rattle.word.specs.Interval.{covers}
+use Rattle.word.specs.Number.{byteOf}
 use Rattle.word.specs.Store.{putByte, putOf}
-use Rattle.word.proofs.Tests.{below-or-not, covers-in, covers-before, covers-after, covers-same}
+use Rattle.word.proofs.Tests.{below-or-not}
+use Rattle.word.proofs.Intervals.{covers-in, covers-before, covers-after, covers-same}
 use Rattle.word.proofs.Tables.{length-table, getD-table, table-ext, table-getD, table-set}
 
 pub put-length : (bytes : List ℕ) (o w v : ℕ) → length (putOf bytes o w v) ≡ length bytes

@@ -1,4 +1,4 @@
--- A read of bytes that are a number's. Assumes nothing.
+-- A read of bytes that are a number's.
 use Prim.Native.Nat.{ℕ, _+_, _%_, _^_, _<_, _≤_, min}
 use mathlib.Core.List.{List}
 use mathlib.Core.Path.{_≡_, refl, sym, ap, _∙_}

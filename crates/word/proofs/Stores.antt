@@ -1,4 +1,4 @@
--- The store under a mask, by index: the places that it covers are blended, all others stay. Assumes nothing.
+-- The store under a mask, by index: the places that it covers are blended, all others stay.
 use Prim.Native.Nat.{ℕ, suc, _+_, _-_, _/_, _%_, _^_, _<_, _≤_, min}
 use mathlib.Core.Bool.{Bool, true, false, cond}
 use mathlib.Core.List.{List}
@@ -7,11 +7,14 @@ use mathlib.Core.Path.{_≡_, refl, sym, ap, _∙_}
 use native.Mathlib.Omega.{arith}
 use lib.ListN.{length, getD, set, List·getD-eq-default}
 use Rattle.word.specs.Table.{table}
-use Rattle.word.specs.Number.{byteOf, covers}
+use Rattle.word.specs.Bit.{bit}
+use Rattle.word.specs.Interval.{covers}
+use Rattle.word.specs.Number.{byteOf}
 use Rattle.word.specs.Store.{blend, storedByte, stored}
-use Rattle.word.proofs.Tests.{below-or-not, true-or-false, covers-in, covers-before, covers-after, covers-same}
+use Rattle.word.proofs.Tests.{below-or-not, true-or-false}
+use Rattle.word.proofs.Intervals.{covers-in, covers-before, covers-after, covers-same}
 use Rattle.word.proofs.Tables.{length-table, getD-table, table-ext, table-getD, table-set}
-use Rattle.word.proofs.Blends.{bit, blend-none, blend-byte, blend-bit}
+use Rattle.word.proofs.Blends.{blend-none, blend-byte, blend-bit}
 
 -- under a mask of zero nothing is stored
 unmasked : (mask live : List ℕ) (o w v j : ℕ) → getD live j 0 < 256 → getD mask j 0 ≡ 0 → storedByte mask live o w v j ≡ getD live j 0

@@ -1,16 +1,16 @@
--- Tables by index, and searches below a number. Assumes nothing.
+-- Lists by index: tables, and lists that a loop fills.
 use Prim.Native.Nat.{ℕ, zero, suc, _+_, _<_, _≤_}
-use mathlib.Core.Bool.{Bool, true, false, _||_, or-true}
+use mathlib.Core.Bool.{cond}
 use mathlib.Core.List.{List, [], _∷_}
-use mathlib.Core.Logic.{_⊎_, inl, inr, ⊎-elim}
+use mathlib.Core.Logic.{⊎-elim}
 use mathlib.Core.Path.{_≡_, refl, ap, sym, _∙_}
-use native.Mathlib.Nat.{eq-or-lt-of-le}
-use native.Mathlib.Numerals.{add-one}
 use native.Mathlib.Omega.{arith}
-use lib.ListN.{length, getD, set, length-set, List·getD-eq-default}
+use borrow.Author.Tests.{lt-ltb, le-ltb}
+use lib.Dec.{ltb}
+use lib.ListN.{length, getD, set, replicate, length-set, List·getD-eq-default}
 use lib.Seq.{ext-getD, getD-set-same, getD-set-other}
-use Rattle.word.specs.Table.{table, anyBelow}
-use Rattle.word.proofs.Tests.{below-or-not, or-cases, same-or-not}
+use Rattle.word.specs.Table.{table, filled}
+use Rattle.word.proofs.Tests.{below-or-not, same-or-not, ltb-same}
 
 module _ {A : Type 0} where
   pub length-table : (n : ℕ) (f : ℕ → A) → length (table n f) ≡ n
@@ -52,22 +52,43 @@ pub table-below : (n : ℕ) (f : ℕ → ℕ) (b : ℕ) → 0 < b → ((k : ℕ)
 table-below n f b z h i =
     ⊎-elim (λ (l : i < n). rw (getD-table n f i 0 l) (h i)) (λ (l : n ≤ i). rw (List·getD-eq-default (table n f) 0 {n = i} (rw length-table l)) z) (below-or-not i n)
 
-module _ (p : ℕ → Bool) where
-  pub any-none : anyBelow p 0 ≡ false
-  unfolding anyBelow
-  any-none = refl
+-- n equal elements are a table
+pub table-blank : {A : Type 0} (d : A) (n : ℕ) → replicate n d ≡ table n (λ k. d)
+unfolding table
+table-blank d zero = refl
+table-blank {A} d (suc n) = ap (λ (l : List A). d ∷ l) (table-blank d n)
 
-  pub any-more : (i : ℕ) → anyBelow p i ≡ false → p i ≡ false → anyBelow p (i + 1) ≡ false
-  unfolding anyBelow
-  any-more i d e = rw (add-one, d, e)
+-- a list that is filled from its first place on
+module _ {A : Type 0} (n : ℕ) (f : ℕ → A) (blank : A) where
+  pub filled-length : (m : ℕ) → length (filled n m f blank) ≡ n
+  unfolding filled
+  filled-length m = length-table n (λ k. cond (ltb k m) (f k) blank)
 
-  pub any-found : (i n : ℕ) → i < n → p i ≡ true → anyBelow p n ≡ true
-  unfolding anyBelow
-  any-found i zero h e = absurd (omega arith)
-  any-found i (suc n) h e = ⊎-elim (λ q. rw (← q, e, or-true)) (λ l. rw (any-found i n l e)) (eq-or-lt-of-le {n = i} {m = n} (omega arith))
+  -- what stands at a place that is filled, and at one that is not
+  pub filled-at : (m i : ℕ) (d : A) → i < n → i < m → getD (filled n m f blank) i d ≡ f i
+  unfolding filled
+  filled-at m i d h l = getD-table n (λ k. cond (ltb k m) (f k) blank) i d h ∙ rw (lt-ltb i m l)
 
-  -- where some index answers, there is one
-  pub any-has : (n : ℕ) → anyBelow p n ≡ true → (i : ℕ) × (i < n) × (p i ≡ true)
-  unfolding anyBelow
-  any-has zero e = let z : _≡_ {A = ℕ} 0 1 = cc in absurd (omega arith)
-  any-has (suc n) e = ⊎-elim (λ a. let r = any-has n a in (r .0, omega arith, r .2)) (λ a. (n, omega arith, a)) (or-cases (anyBelow p n) (p n) e)
+  pub filled-past : (m i : ℕ) (d : A) → i < n → m ≤ i → getD (filled n m f blank) i d ≡ blank
+  unfolding filled
+  filled-past m i d h l = getD-table n (λ k. cond (ltb k m) (f k) blank) i d h ∙ rw (le-ltb i m l)
+
+  -- with none filled there are blanks alone
+  pub filled-none : filled n 0 f blank ≡ table n (λ k. blank)
+  unfolding filled
+  filled-none = table-ext n (λ k. cond (ltb k 0) (f k) blank) (λ k. blank) (λ k h. rw (le-ltb k 0 (omega arith)))
+
+  pub blank-filled : replicate n blank ≡ filled n 0 f blank
+  blank-filled = table-blank blank n ∙ sym filled-none
+
+  -- with all filled none is left
+  pub filled-all : filled n n f blank ≡ table n f
+  unfolding filled
+  filled-all = table-ext n (λ k. cond (ltb k n) (f k) blank) f (λ k h. rw (lt-ltb k n h))
+
+  -- one more: the step of a loop that fills
+  pub filled-more : (m : ℕ) (b : A) → m < n → b ≡ f m → set (filled n m f blank) m b ≡ filled n (m + 1) f blank
+  unfolding filled
+  filled-more m b h e =
+      table-set blank n (λ k. cond (ltb k m) (f k) blank) (λ k. cond (ltb k (m + 1)) (f k) blank) m b h (e ∙ rw (lt-ltb m (m + 1) (omega arith)))
+      (λ k l q. rw (ltb-same k m k (m + 1) (λ a. omega arith) (λ a. ⊎-elim (λ (p : k < m). p) (λ (p : m ≤ k). absurd (q (omega arith))) (below-or-not k m))))

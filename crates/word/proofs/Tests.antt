@@ -1,12 +1,11 @@
--- Tests and what they decide: two orders of numbers, one Bool of two facts, the places that an access covers. Assumes nothing.
-use Prim.Native.Nat.{ℕ, _+_, _<_, _≤_}
+-- Tests and what they decide: two orders of numbers, and one Bool of two facts.
+use Prim.Native.Nat.{ℕ, _<_, _≤_}
 use mathlib.Core.Bool.{Bool, true, false, _&&_, _||_}
 use mathlib.Core.Logic.{_⊎_, inl, inr}
-use mathlib.Core.Path.{_≡_, refl, ap}
+use mathlib.Core.Path.{_≡_, refl}
 use native.Mathlib.Omega.{arith}
-use borrow.Author.Tests.{ltb-true, ltb-false, leb-true, leb-false, eqb-true, eqb-false, lt-ltb, le-ltb, le-leb, lt-leb}
-use lib.Dec.{ltb, leb, eqb}
-use Rattle.word.specs.Number.{covers}
+use borrow.Author.Tests.{ltb-true, ltb-false, eqb-true, eqb-false, lt-ltb}
+use lib.Dec.{ltb, eqb}
 
 -- a number is below another or not
 by-ltb : (t : Bool) (a b : ℕ) → ltb a b ≡ t → (a < b) ⊎ (b ≤ a)
@@ -27,6 +26,15 @@ same-or-not a b = by-eqb (eqb a b) a b refl
 pub true-or-false : (t : Bool) → (t ≡ true) ⊎ (t ≡ false)
 true-or-false true = inl refl
 true-or-false false = inr refl
+
+-- and not both
+pub both : {t : Bool} → t ≡ true → t ≡ false → ⊥
+both a b = let z : _≡_ {A = ℕ} 0 1 = cc in absurd (omega arith)
+
+-- one that cannot be true is false
+pub never : (t : Bool) → (t ≡ true → ⊥) → t ≡ false
+never true h = absurd (h refl)
+never false h = refl
 
 -- what both parts of an `and` say, and the whole from both
 pub and-left : (a b : Bool) → a && b ≡ true → a ≡ true
@@ -53,25 +61,3 @@ same-test false false f g = refl
 -- so for two orders
 pub ltb-same : (a b c d : ℕ) → (a < b → c < d) → (c < d → a < b) → ltb a b ≡ ltb c d
 ltb-same a b c d f g = same-test (ltb a b) (ltb c d) (λ e. lt-ltb c d (f (ltb-true a b e))) (λ e. lt-ltb a b (g (ltb-true c d e)))
-
--- an access covers what lies from its offset up to its end
-pub covers-in : (o w j : ℕ) → o ≤ j → j < o + w → covers o w j ≡ true
-unfolding covers
-covers-in o w j h k = rw (le-leb o j h, lt-ltb j (o + w) k)
-
-pub covers-before : (o w j : ℕ) → j < o → covers o w j ≡ false
-unfolding covers
-covers-before o w j h = rw (lt-leb o j h)
-
-and-false-right : (t : Bool) → t && false ≡ false
-and-false-right true = refl
-and-false-right false = refl
-
-pub covers-after : (o w j : ℕ) → o + w ≤ j → covers o w j ≡ false
-unfolding covers
-covers-after o w j h = rw (le-ltb j (o + w) h) (and-false-right (leb o j))
-
--- two ends with nothing at j between them cover it alike
-pub covers-same : (o w u j : ℕ) → (j < o + w → j < o + u) → (j < o + u → j < o + w) → covers o w j ≡ covers o u j
-unfolding covers
-covers-same o w u j f g = ap (λ (t : Bool). leb o j && t) (ltb-same j (o + w) j (o + u) f g)

@@ -1,4 +1,4 @@
--- What is known of an access width. Assumes nothing.
+-- What is known of an access width.
 use Prim.Native.Nat.{ℕ, _<_, _≤_}
 use mathlib.Core.Bool.{Bool, true, false, _&&_, _||_}
 use mathlib.Core.Logic.{⊎-elim}

@@ -1,10 +1,10 @@
 -- Little-endian numbers in bytes, at any width.
 use Prim.Native.Nat.{ℕ, _+_, _-_, _*_, _/_, _%_, _^_, min}
-use mathlib.Core.Bool.{Bool, _&&_, cond}
+use mathlib.Core.Bool.{cond}
 use mathlib.Core.List.{List, [], _∷_}
-use lib.Dec.{leb, ltb}
 use lib.ListN.{take, drop}
 use Rattle.word.specs.Table.{table}
+use Rattle.word.specs.Interval.{covers}
 
 -- the number that bytes spell, the first one lowest
 unfoldable pub number : List ℕ → ℕ
@@ -22,10 +22,6 @@ bytesOf w v = table w (byteOf v)
 -- the number in `width` bytes from `offset` on: of those bytes, as many as the list has, and no more than the eight of the widest access
 unfoldable pub readAt : List ℕ → ℕ → ℕ → ℕ
 readAt bytes offset width = number (take (min width 8) (drop offset bytes))
-
--- whether index j is one of the `width` from `offset` on
-unfoldable pub covers : ℕ → ℕ → ℕ → Bool
-covers offset width j = leb offset j && ltb j (offset + width)
 
 -- byte k of a dword with `width` bytes of a value in place of its own from `lane` on
 abbrev pub mergedByte : ℕ → ℕ → ℕ → ℕ → ℕ → ℕ

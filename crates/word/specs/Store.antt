@@ -5,9 +5,10 @@ use mathlib.Core.List.{List}
 use lib.Bits.{bitAnd, bitOr}
 use lib.ListN.{length, getD}
 use Rattle.word.specs.Table.{table}
-use Rattle.word.specs.Number.{byteOf, covers}
+use Rattle.word.specs.Interval.{covers}
+use Rattle.word.specs.Number.{byteOf}
 
--- one byte: value bits where the mask is 1, the old ones where it is 0 (proofs/Bits.antt says it bit by bit)
+-- one byte: value bits where the mask is 1, the old ones where it is 0 (`blend-bit` of proofs/Blends.antt says it bit by bit)
 unfoldable pub blend : ℕ → ℕ → ℕ → ℕ
 blend mask old value = bitOr (bitAnd old (255 - mask)) (bitAnd value mask)
 

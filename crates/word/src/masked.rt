@@ -4,6 +4,8 @@ ghost use Prim.Native.Nat.{_-_, min};
 ghost use lib.ListN.{getD};
 ghost use Rattle.word.specs.Number.{byteOf};
 ghost use Rattle.word.specs.Store.{blend, stored};
+use crate::bounds::at_most;
+use crate::bounds::past;
 
 // Byte k of a number.
 fn byte_of(value: u64, k: usize) -> u8
@@ -58,13 +60,7 @@ pub fn stored_byte(
 pub fn reach(len: usize, offset: usize, width: usize) -> usize
     ensures { λ r. ⌜ r ≡ min width (len - offset) ⌝ }
 {
-    if len <= offset {
-        return 0;
-    }
-    if len - offset <= width {
-        return len - offset;
-    }
-    width
+    at_most(width, past(len, offset))
 }
 
 // Stores `width` bytes of `value` from `offset` on, byte by byte under the mask.

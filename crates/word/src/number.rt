@@ -1,14 +1,25 @@
 // Numbers in bytes, lowest byte first.
 ghost use mathlib.Core.Path.{_≡_};
-ghost use Prim.Native.Nat.{_+_, _≤_, min};
-ghost use lib.ListN.{length};
+ghost use Prim.Native.Nat.{_≤_};
+ghost use lib.ListN.{length, getD};
 ghost use Rattle.word.specs.Number.{number, readAt, bytesOf, merge};
+use crate::bounds::at_most;
 use crate::masked::store;
 
 fn wide(x: u8) -> u64
     ensures { λ r. ⌜ r ≡ x ⌝ }
 {
     x as u64
+}
+
+// The byte at an index; 0 past the end.
+pub fn byte_at(bytes: &[u8], i: usize) -> u8
+    ensures { λ r. ⌜ r ≡ getD (now (bytes .entry)) i 0 ⌝ }
+{
+    if bytes.len() <= i {
+        return 0;
+    }
+    bytes[i]
 }
 
 // The number that at most eight bytes spell.
@@ -25,18 +36,12 @@ fn spelt(bytes: &[u8]) -> u64
     n
 }
 
-fn least(a: usize, b: usize) -> usize
-    ensures { λ r. ⌜ r ≡ min a b ⌝ }
-{
-    if a < b { a } else { b }
-}
-
 // The number in `width` bytes, eight at most, from `offset` on.
 pub fn read(bytes: &[u8], offset: usize, width: usize) -> u64
     ensures { λ r. ⌜ r ≡ readAt (now (bytes .entry)) offset width ⌝ }
 {
-    let from = least(offset, bytes.len());
-    let many = least(least(width, 8), bytes.len() - from);
+    let from = at_most(offset, bytes.len());
+    let many = at_most(at_most(width, 8), bytes.len() - from);
     spelt(&bytes[from..from + many])
 }
 

@@ -1,4 +1,4 @@
--- `check` refuses exactly what document 01 lists under 18. Assumes nothing.
+-- `check` refuses exactly what document 01 lists under 18.
 use Prim.Native.Nat.{ℕ, _<_, _≤_, _%_}
 use mathlib.Core.Bool.{true, false}
 use mathlib.Core.Path.{_≡_, sym, _∙_}

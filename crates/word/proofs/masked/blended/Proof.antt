@@ -1,4 +1,4 @@
--- `blended` is the definition's own expression. Assumes nothing.
+-- `blended` is the definition's own expression.
 use mathlib.Core.Path.{refl}
 use Rattle.word.specs.Store.{blend}
 use Rattle.word.proofs.masked.blended.Statement.{statement}

@@ -1,4 +1,4 @@
--- `byte_of` divides by 256 for each byte below; what is left at 0 stays 0. Assumes nothing.
+-- `byte_of` divides by 256 for each byte below; what is left at 0 stays 0.
 use Prim.Native.Nat.{ℕ, _-_, _/_, _^_, _≤_}
 use mathlib.Core.Path.{_≡_, sym, _∙_}
 use native.Mathlib.Nat.{div-one, div-div-eq-div-mul, pow-suc}

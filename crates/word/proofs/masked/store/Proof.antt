@@ -1,4 +1,4 @@
--- `store`: after i bytes the image is the store of i bytes, and what is left of the value is its bytes from i on. Assumes nothing.
+-- `store`: after i bytes the image is the store of i bytes, and what is left of the value is its bytes from i on.
 use Prim.Native.Nat.{ℕ, _+_, _-_, _/_, _^_, _≤_, _<_, min}
 use mathlib.Core.Path.{_≡_, refl, sym, _∙_}
 use native.Mathlib.Nat.{div-one, div-div-eq-div-mul, pow-suc}

@@ -1,4 +1,4 @@
--- `stored_byte` goes by the places that the store covers and that the mask has. Assumes nothing.
+-- `stored_byte` goes by the places that the store covers and that the mask has.
 use mathlib.Core.Logic.{inl, inr}
 use mathlib.Core.Path.{_≡_, sym, _∙_}
 use native.Mathlib.Omega.{arith}

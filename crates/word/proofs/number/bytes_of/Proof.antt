@@ -1,4 +1,4 @@
--- `bytes_of` writes out the table of four bytes. Assumes nothing.
+-- `bytes_of` writes out the table of four bytes.
 use mathlib.Core.Path.{refl}
 use native.Mathlib.Nat.{div-one}
 use borrow.Author.Needs.{needs}

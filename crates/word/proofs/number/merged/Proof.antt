@@ -1,4 +1,4 @@
--- `merged` is the store under four masks of ones. Assumes nothing.
+-- `merged` is the store under four masks of ones.
 use Prim.Native.Nat.{ℕ}
 use mathlib.Core.Path.{_≡_}
 use Rattle.word.specs.Number.{merge}

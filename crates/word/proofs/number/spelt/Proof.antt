@@ -1,4 +1,4 @@
--- `spelt` takes the bytes from the last on: what is read so far is the number of those from i on. Assumes nothing.
+-- `spelt` takes the bytes from the last on: what is read so far is the number of those from i on.
 use Prim.Native.Nat.{ℕ, _+_, _-_, _*_, _^_, _≤_, _<_}
 use mathlib.Core.Path.{_≡_, refl, sym, _∙_}
 use native.Mathlib.Nat.{pow-le-pow-right, lt-of-lt-of-le}

@@ -1,4 +1,4 @@
--- `width_ok` tries the four widths. Assumes nothing.
+-- `width_ok` tries the four widths.
 use mathlib.Core.Path.{refl}
 use borrow.Author.Tests.{lt-leb, le-leb, ne-eqb}
 use Rattle.word.specs.Width.{widthOk}

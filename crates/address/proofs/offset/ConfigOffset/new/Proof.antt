@@ -1,4 +1,4 @@
--- `ConfigOffset::new` gives an offset exactly for those in the space. Assumes nothing.
+-- `ConfigOffset::new` gives an offset exactly for those in the space.
 use mathlib.Core.Path.{sym}
 use Rattle.address.proofs.Offsets.{offset-good, offset-bad}
 use borrow.Author.Needs.{needs}

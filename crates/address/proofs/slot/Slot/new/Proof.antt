@@ -1,4 +1,4 @@
--- `Slot::new` gives a slot exactly for 0 to 5. Assumes nothing.
+-- `Slot::new` gives a slot exactly for 0 to 5.
 use mathlib.Core.Path.{sym}
 use Rattle.address.proofs.Slots.{slot-good, slot-bad}
 use Rattle.address.proofs.slot.Slot.new.Statement.{statement}

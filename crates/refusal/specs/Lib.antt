@@ -1,0 +1,2 @@
+-- The refusals of document 01.
+pub mod Number
