@@ -63,7 +63,7 @@ impl BarState {
         if self.probing {
             size_mask(self.plan.size)
         } else {
-            self.committed_dword() as u64
+            committed_dword(self.address) as u64
         }
     }
 
