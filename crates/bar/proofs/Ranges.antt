@@ -1,11 +1,12 @@
--- Ranges: what it means to meet, to lie in the aperture, to be a multiple. Assumes nothing.
+-- Ranges: what it means to meet, to lie in the aperture, to be a multiple.
 use Prim.Native.Nat.{ℕ, _+_, _-_, _%_, _<_, _≤_, min, max}
 use mathlib.Core.Bool.{Bool, true, false, _&&_, cond, and-false}
 use mathlib.Core.Path.{_≡_, refl, sym, _∙_}
-use borrow.Author.Tests.{lt-ltb, le-ltb, le-leb, lt-leb, eq-eqb, ltb-true, ltb-false, leb-true, eqb-true}
+use borrow.Author.Tests.{lt-ltb, le-ltb, le-leb, lt-leb, eq-eqb, ltb-true, leb-true, eqb-true}
 use native.Mathlib.Omega.{arith}
 use lib.Dec.{ltb, leb, eqb}
-use Rattle.word.proofs.Tests.{and-left, and-right, same-test, ltb-same}
+use Rattle.word.proofs.Tests.{and-left, and-right, same-test}
+use Rattle.word.proofs.Intervals.{covers-in, covers-within, Meeting, overlap-meeting, meeting-overlap, overlap-common, common-overlap, overlap-sym, overlap-not, apart-overlap}
 use Rattle.bar.specs.Range.{range, endOf, multiple, liesIn, meets, apertureOf}
 use Rattle.bar.specs.declared.range.Range.{Range}
 use Rattle.bar.specs.declared.range.Aperture.{Aperture}
@@ -16,49 +17,41 @@ pub record In (r : Range) (x : ℕ) : Type 0 where
   pub from : r .start ≤ x
   pub below : x < endOf r
 
--- both ranges have an address, and each starts before the other ends
-pub record Meeting (r s : Range) : Type 0 where
-  pub first-full : 0 < r .size
-  pub second-full : 0 < s .size
-  pub first-starts : r .start < endOf s
-  pub second-starts : s .start < endOf r
-
-pub meets-meeting : (r s : Range) → meets r s ≡ true → Meeting r s
-unfolding meets
-meets-meeting r s e =
-    let h = ltb-true (max (r .start) (s .start)) (min (endOf r) (endOf s)) e in
-    record { first-full = omega arith; second-full = omega arith; first-starts = omega arith; second-starts = omega arith }
-
-pub meeting-meets : (r s : Range) → Meeting r s → meets r s ≡ true
-unfolding meets
-meeting-meets r s m = lt-ltb (max (r .start) (s .start)) (min (endOf r) (endOf s)) (omega (arith, m .first-full, m .second-full, m .first-starts, m .second-starts))
-
 -- two ranges meet exactly if some address lies in both
 pub meets-common : (r s : Range) → meets r s ≡ true → (x : ℕ) × In r x × In s x
+unfolding meets
 meets-common r s e =
-    let m = meets-meeting r s e in
-    (max (r .start) (s .start), record { from = omega arith; below = omega (arith, m .first-full, m .second-starts) }, record { from = omega arith; below = omega (arith, m .second-full, m .first-starts) })
+    let c = overlap-common (r .start) (r .size) (s .start) (s .size) e in
+    let a = covers-within (r .start) (r .size) (c .0) (c .1) in
+    let b = covers-within (s .start) (s .size) (c .0) (c .2) in
+    (c .0, record { from = a .from; below = a .to }, record { from = b .from; below = b .to })
 
 pub common-meets : (r s : Range) (x : ℕ) → In r x → In s x → meets r s ≡ true
+unfolding meets
 common-meets r s x a b =
-    meeting-meets r s (record { first-full = omega (arith, a .from, a .below); second-full = omega (arith, b .from, b .below); first-starts = omega (arith, a .from, b .below); second-starts = omega (arith, b .from, a .below) })
+    common-overlap (r .start) (r .size) (s .start) (s .size) x (covers-in (r .start) (r .size) x (a .from) (a .below)) (covers-in (s .start) (s .size) x (b .from) (b .below))
+
+-- the same by starts and ends
+pub meets-meeting : (r s : Range) → meets r s ≡ true → Meeting (r .start) (r .size) (s .start) (s .size)
+unfolding meets
+meets-meeting r s e = overlap-meeting (r .start) (r .size) (s .start) (s .size) e
+
+pub meeting-meets : (r s : Range) → Meeting (r .start) (r .size) (s .start) (s .size) → meets r s ≡ true
+unfolding meets
+meeting-meets r s m = meeting-overlap (r .start) (r .size) (s .start) (s .size) m
 
 pub meets-sym : (r s : Range) → meets r s ≡ meets s r
-meets-sym r s = same-test (meets r s) (meets s r) (turned r s) (turned s r)
-  where
-    turned : (r s : Range) → meets r s ≡ true → meets s r ≡ true
-    turned r s e =
-        let m = meets-meeting r s e in
-        meeting-meets s r (record { first-full = m .second-full; second-full = m .first-full; first-starts = m .second-starts; second-starts = m .first-starts })
+unfolding meets
+meets-sym r s = overlap-sym (r .start) (r .size) (s .start) (s .size)
 
 -- ranges that do not meet lie one after the other, or one is empty
 pub meets-not : (r s : Range) → meets r s ≡ false → min (endOf r) (endOf s) ≤ max (r .start) (s .start)
 unfolding meets
-meets-not r s e = ltb-false (max (r .start) (s .start)) (min (endOf r) (endOf s)) e
+meets-not r s e = overlap-not (r .start) (r .size) (s .start) (s .size) e
 
 pub apart : (r s : Range) → min (endOf r) (endOf s) ≤ max (r .start) (s .start) → meets r s ≡ false
 unfolding meets
-apart r s h = le-ltb (max (r .start) (s .start)) (min (endOf r) (endOf s)) h
+apart r s h = apart-overlap (r .start) (r .size) (s .start) (s .size) h
 
 -- an empty range meets nothing
 pub empty-first : (r s : Range) → r .size ≡ 0 → meets r s ≡ false
@@ -66,12 +59,6 @@ empty-first r s e = apart r s (omega arith)
 
 pub empty-second : (r s : Range) → s .size ≡ 0 → meets r s ≡ false
 empty-second r s e = apart r s (omega arith)
-
--- of two full ranges, the one that starts first has to reach the other's start
-pub meets-reach : (r s : Range) → r .start ≤ s .start → 0 < s .size → ltb (s .start - r .start) (r .size) ≡ meets r s
-unfolding meets
-meets-reach r s h k =
-    ltb-same (s .start - r .start) (r .size) (max (r .start) (s .start)) (min (endOf r) (endOf s)) (λ l. omega arith) (λ l. omega arith)
 
 -- a range lies in the aperture: its start and its end do
 pub lies : (a : Aperture) (r : Range) → a .start ≤ r .start → endOf r ≤ a .end → liesIn a r ≡ true

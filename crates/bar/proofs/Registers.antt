@@ -1,38 +1,29 @@
--- A BAR's register: addresses are multiples of 16 below 4 GiB, and show as themselves. Assumes nothing.
+-- A BAR's register: which dwords are addresses, and what they ask for.
 use Prim.Native.Nat.{ℕ, _+_, _-_, _*_, _/_, _%_, _^_, _<_, _≤_}
 use mathlib.Core.Bool.{Bool, true, false, cond}
 use mathlib.Core.Path.{_≡_, refl, sym, ap, _∙_}
 use borrow.Author.Tests.{eq-eqb, ne-eqb, eqb-true}
+use native.Mathlib.Nat.{div-add-mod', mul-assoc, mul-mod-left}
 use native.Mathlib.Omega.{arith}
+use lib.Pow.{pow-add}
 use lib.Dec.{eqb}
 use Rattle.bar.specs.Range.{fourGib}
-use Rattle.bar.specs.Register.{sizeMask, candidate, committed, startsProbe, classOf}
+use Rattle.bar.specs.Bar.{Sized}
+use Rattle.bar.specs.Register.{addressUnit, sizeMask, candidate, committed, startsProbe, classOf, Address}
 use Rattle.bar.specs.declared.bar_state.BarWrite.the-variants as barWrite
+use Rattle.bar.proofs.Sizes.{least-exponent}
 
 pub candidate-le : (d : ℕ) → candidate d ≤ d
 unfolding candidate
 candidate-le d = omega arith
 
-pub candidate-multiple : (d : ℕ) → candidate d % 16 ≡ 0
+pub candidate-again : (d : ℕ) → candidate (candidate d) ≡ candidate d
 unfolding candidate
-candidate-multiple d = omega arith
-
-pub candidate-is : (d : ℕ) → d % 16 ≡ 0 → candidate d ≡ d
-unfolding candidate
-candidate-is d h = omega arith
+candidate-again d = omega arith
 
 pub committed-lt : (a : ℕ) → committed a < fourGib
 unfolding committed
 committed-lt a = omega (arith, candidate-le (a % fourGib))
-
-pub committed-multiple : (a : ℕ) → committed a % 16 ≡ 0
-unfolding committed
-committed-multiple a = candidate-multiple (a % fourGib)
-
--- an aligned address below 4 GiB shows as itself
-pub committed-is : (a : ℕ) → a < fourGib → a % 16 ≡ 0 → committed a ≡ a
-unfolding committed
-committed-is a h k = let e : a % fourGib ≡ a = omega arith in rw e (candidate-is a k)
 
 -- a mask tells the size
 pub mask-size : (size : ℕ) → size ≤ fourGib → fourGib - sizeMask size ≡ size
@@ -47,14 +38,55 @@ pub mask-zero : (size : ℕ) → fourGib ≤ size → sizeMask size ≡ 0
 unfolding sizeMask
 mask-zero size h = omega arith
 
--- the largest dword starts a probe, and no aligned one does
+-- the largest dword starts a probe, and no address does
 pub all-ones-probe : startsProbe 0xffffffff ≡ true
 unfolding startsProbe
 all-ones-probe = refl
 
-pub aligned-no-probe : (d : ℕ) → d % 16 ≡ 0 → startsProbe d ≡ false
+aligned-quiet : (d : ℕ) → d % addressUnit ≡ 0 → startsProbe d ≡ false
 unfolding startsProbe
-aligned-no-probe d h = ne-eqb d 0xffffffff (λ e. omega arith)
+aligned-quiet d h = ne-eqb d 0xffffffff (λ e. omega arith)
+
+-- a multiple of the unit below 4 GiB is an address
+pub unit-address : (a : ℕ) → a < fourGib → a % addressUnit ≡ 0 → Address a
+unfolding committed candidate
+unit-address a h k = record { shows = (let e : a % fourGib ≡ a = omega arith in rw e (omega arith)); quiet = aligned-quiet a k }
+
+-- and an address lies below 4 GiB
+pub address-lt : (a : ℕ) → Address a → a < fourGib
+address-lt a h = omega (arith, committed-lt a, h .shows)
+
+-- so are the candidate of a dword and what a register shows
+pub candidate-address : (d : ℕ) → d < fourGib → Address (candidate d)
+unfolding candidate
+candidate-address d h = unit-address (d / addressUnit * addressUnit) (omega arith) (omega arith)
+
+pub committed-address : (a : ℕ) → Address (committed a)
+unfolding committed
+committed-address a = candidate-address (a % fourGib) (omega arith)
+
+-- an address is its own candidate
+pub address-candidate : (a : ℕ) → Address a → candidate a ≡ a
+unfolding committed
+address-candidate a h = let e : a % fourGib ≡ a = omega (arith, address-lt a h) in sym (ap candidate e) ∙ h .shows
+
+-- the sizes of the rule are multiples of the unit, so a multiple of a size is an address where its range ends at 4 GiB at most
+size-unit : (size : ℕ) → Sized size → size % addressUnit ≡ 0
+size-unit size s =
+    let k : 4 ≤ s .exponent = least-exponent size (s .exponent) (s .least) (s .power) in
+    let e : s .exponent ≡ (s .exponent - 4) + 4 = omega arith in
+    rw (s .power, e, pow-add 2 (s .exponent - 4) 4) (omega arith)
+
+times-unit : (n size : ℕ) → size % addressUnit ≡ 0 → n * size % addressUnit ≡ 0
+times-unit n size e =
+    let q : size ≡ size / addressUnit * addressUnit = omega arith in
+    rw (q, ← mul-assoc n (size / addressUnit) addressUnit) (mul-mod-left (n * (size / addressUnit)) addressUnit)
+
+pub placed-address : (size a : ℕ) → Sized size → a % size ≡ 0 → a + size ≤ fourGib → Address a
+placed-address size a s m h =
+    let u = size-unit size s in
+    let q : a ≡ a / size * size = sym (div-add-mod' a size) ∙ rw m (omega arith) in
+    unit-address a (omega (arith, s .least)) (rw q (times-unit (a / size) size u))
 
 pub class-probe : (d : ℕ) → startsProbe d ≡ true → classOf d ≡ barWrite.Probe
 unfolding classOf

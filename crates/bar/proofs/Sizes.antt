@@ -1,4 +1,4 @@
--- The size rule: 16 to 4 GiB, a power of two. Assumes nothing.
+-- The size rule: from the least to the largest, a power of two.
 use Prim.Native.Nat.{ℕ, _+_, _^_, _<_, _≤_}
 use mathlib.Core.Bool.{Bool, true, false, _&&_, cond, and-false}
 use mathlib.Core.Logic.{⊎-elim}
@@ -7,22 +7,14 @@ use borrow.Author.Tests.{le-leb, lt-leb, eq-eqb, leb-true, eqb-true}
 use native.Mathlib.Omega.{arith}
 use lib.Dec.{leb, eqb}
 use lib.Pow.{pow-mono}
-use Rattle.word.specs.Table.{anyBelow}
+use Rattle.word.specs.Search.{anyBelow}
 use Rattle.word.proofs.Tests.{and-left, and-right, below-or-not, same-test}
-use Rattle.word.proofs.Tables.{any-found, any-has}
+use Rattle.word.proofs.Searches.{any-found, any-has}
 use Rattle.address.specs.declared.slot.Slot.{Slot}
-use Rattle.bar.specs.Range.{fourGib}
-use Rattle.bar.specs.Bar.{powerOfTwo, sizeOk, memoryBar, barOf}
+use Rattle.bar.specs.Bar.{powerOfTwo, leastSize, mostSize, sizeOk, Sized, memoryBar, barOf}
 use Rattle.bar.specs.declared.memory_bar.Request.{Request}
 use Rattle.bar.specs.declared.memory_bar.MemoryBar.{MemoryBar}
 use Rattle.bar.specs.declared.memory_bar.BarAnswer.the-variants as barAnswer
-
--- what the rule says of a size
-pub record Sized (size : ℕ) : Type 0 where
-  pub least : 16 ≤ size
-  pub most : size ≤ fourGib
-  pub exponent : ℕ
-  pub power : size ≡ 2 ^ exponent
 
 -- an exponent of a 64-bit power is below 64
 pub exponent-lt : (k p : ℕ) → p ≡ 2 ^ k → p < 2 ^ 64 → k < 64
@@ -42,8 +34,8 @@ power-test n p k e f h low =
     same-test (eqb p n) (powerOfTwo n) (λ t. power-of n k (sym (eqb-true p n t) ∙ e) (exponent-lt k p e f))
     (λ t. let r = power-has n t in eq-eqb p n (omega (arith, pow-mono {i = k} {j = r .0} (low (r .0) (r .1)), r .1)))
 
--- a power of at least 16 has an exponent of at least 4
-pub least-exponent : (n j : ℕ) → 16 ≤ n → n ≡ 2 ^ j → 4 ≤ j
+-- a power of at least the least size has an exponent of at least 4
+pub least-exponent : (n j : ℕ) → leastSize ≤ n → n ≡ 2 ^ j → 4 ≤ j
 least-exponent n j h e =
     ⊎-elim (λ (l : j < 4). absurd (omega (arith, pow-mono {i = j} {j = 3} (omega arith)))) (λ (l : 4 ≤ j). l) (below-or-not j 4)
 
@@ -55,27 +47,27 @@ power-next n p k e h low j f =
 pub size-ok : (size : ℕ) → Sized size → sizeOk size ≡ true
 unfolding sizeOk
 size-ok size s =
-    rw (le-leb 16 size (s .least), le-leb size fourGib (s .most)) (power-of size (s .exponent) (s .power) (exponent-lt (s .exponent) size (s .power) (omega (arith, s .most))))
+    rw (le-leb leastSize size (s .least), le-leb size mostSize (s .most)) (power-of size (s .exponent) (s .power) (exponent-lt (s .exponent) size (s .power) (omega (arith, s .most))))
 
 pub ok-size : (size : ℕ) → sizeOk size ≡ true → Sized size
 unfolding sizeOk
 ok-size size e =
-    let r = and-right (leb 16 size) (leb size fourGib && powerOfTwo size) e in
-    let p = power-has size (and-right (leb size fourGib) (powerOfTwo size) r) in
-    record { least = leb-true 16 size (and-left (leb 16 size) (leb size fourGib && powerOfTwo size) e); most = leb-true size fourGib (and-left (leb size fourGib) (powerOfTwo size) r); exponent = p .0; power = p .1 }
+    let r = and-right (leb leastSize size) (leb size mostSize && powerOfTwo size) e in
+    let p = power-has size (and-right (leb size mostSize) (powerOfTwo size) r) in
+    record { least = leb-true leastSize size (and-left (leb leastSize size) (leb size mostSize && powerOfTwo size) e); most = leb-true size mostSize (and-left (leb size mostSize) (powerOfTwo size) r); exponent = p .0; power = p .1 }
 
-pub size-small : (size : ℕ) → size < 16 → sizeOk size ≡ false
+pub size-small : (size : ℕ) → size < leastSize → sizeOk size ≡ false
 unfolding sizeOk
-size-small size h = rw (lt-leb 16 size h)
+size-small size h = rw (lt-leb leastSize size h)
 
-pub size-large : (size : ℕ) → fourGib < size → sizeOk size ≡ false
+pub size-large : (size : ℕ) → mostSize < size → sizeOk size ≡ false
 unfolding sizeOk
-size-large size h = rw (lt-leb size fourGib h, and-false (leb 16 size))
+size-large size h = rw (lt-leb size mostSize h, and-false (leb leastSize size))
 
 -- between the two ends the power decides
-pub size-by-power : (size : ℕ) → 16 ≤ size → size ≤ fourGib → sizeOk size ≡ powerOfTwo size
+pub size-by-power : (size : ℕ) → leastSize ≤ size → size ≤ mostSize → sizeOk size ≡ powerOfTwo size
 unfolding sizeOk
-size-by-power size h k = rw (le-leb 16 size h, le-leb size fourGib k)
+size-by-power size h k = rw (le-leb leastSize size h, le-leb size mostSize k)
 
 pub bar-good : (s : Slot) (size : ℕ) (r : Request) → sizeOk size ≡ true → barOf s size r ≡ barAnswer.Good (memoryBar s size r)
 unfolding barOf

@@ -1,4 +1,4 @@
--- A BAR's state: addresses stay below 4 GiB (the Rust's debug_assert), the plan stays, and what a write and a read of a whole register give. Assumes nothing.
+-- A BAR's state: addresses stay below 4 GiB (the Rust's debug_assert), the plan stays, and what a write and a read of a whole register give.
 use Prim.Native.Nat.{ℕ, _%_, _<_, _≤_}
 use mathlib.Core.Bool.{Bool, true, false}
 use mathlib.Core.Path.{_≡_, refl, sym, ap, _∙_}
@@ -6,18 +6,14 @@ use native.Mathlib.Omega.{arith}
 use Rattle.word.specs.Number.{merge}
 use Rattle.word.proofs.Merges.{merge-lt, merge-whole}
 use Rattle.bar.specs.Range.{fourGib}
-use Rattle.bar.specs.Register.{sizeMask, candidate, committed, startsProbe, classOf}
+use Rattle.bar.specs.Register.{sizeMask, candidate, committed, startsProbe, classOf, Address}
+use Rattle.bar.specs.Bounded.{Bounded}
 use Rattle.bar.specs.State.{fresh, resetOf, shown, asks, probed, relocated}
 use Rattle.bar.specs.declared.bar_state.Plan.{Plan}
 use Rattle.bar.specs.declared.bar_state.BarState.{BarState}
 use Rattle.bar.specs.declared.bar_state.BarWrite.the-variants as barWrite
 use Rattle.bar.specs.declared.bar_state.Relocation.the-variants as relocation
-use Rattle.bar.proofs.Registers.{candidate-le, candidate-multiple, candidate-is, committed-lt, committed-is, mask-lt, class-is, class-probe, class-relocate, all-ones-probe, aligned-no-probe}
-
--- what every state that placement and the guest's writes reach keeps
-pub record Bounded (b : BarState) : Type 0 where
-  pub now : b .address < fourGib
-  pub placed : b .plan .address < fourGib
+use Rattle.bar.proofs.Registers.{candidate-address, address-lt, address-candidate, committed-lt, mask-lt, class-is, class-probe, class-relocate, all-ones-probe}
 
 pub fresh-bounded : (p : Plan) → p .address < fourGib → Bounded (fresh p)
 fresh-bounded p h = record { now = h; placed = h }
@@ -43,29 +39,23 @@ pub asks-relocate : (b : BarState) (lane width value d : ℕ) → d ≡ merge (c
 unfolding asks
 asks-relocate b lane width value d e t = rw (← e) (class-relocate d t)
 
--- a candidate is a multiple of 16 below 4 GiB
-pub asked-lt : (b : BarState) (lane width value a : ℕ) → asks b lane width value ≡ barWrite.Relocate a → a < fourGib
+-- a candidate is an address
+pub asked-address : (b : BarState) (lane width value a : ℕ) → asks b lane width value ≡ barWrite.Relocate a → Address a
 unfolding asks
-asked-lt b lane width value a e =
+asked-address b lane width value a e =
     let d = merge (committed (b .address)) lane width value in
-    omega (arith, class-is d a e, candidate-le d, merge-lt (committed (b .address)) lane width value)
+    rw (class-is d a e) (candidate-address d (merge-lt (committed (b .address)) lane width value))
 
-pub asked-multiple : (b : BarState) (lane width value a : ℕ) → asks b lane width value ≡ barWrite.Relocate a → a % 16 ≡ 0
-unfolding asks
-asked-multiple b lane width value a e =
-    let d = merge (committed (b .address)) lane width value in
-    rw (class-is d a e) (candidate-multiple d)
-
--- a whole register of ones probes; a whole register with an aligned address asks for it
+-- a whole register of ones probes; a whole register with an address asks for it
 pub ones-probe : (b : BarState) → asks b 0 4 0xffffffff ≡ barWrite.Probe
 unfolding asks
 ones-probe b = rw (merge-whole (committed (b .address)) 0xffffffff) (class-probe 0xffffffff all-ones-probe)
 
-pub address-relocates : (b : BarState) (a : ℕ) → a < fourGib → a % 16 ≡ 0 → asks b 0 4 a ≡ barWrite.Relocate a
+pub address-relocates : (b : BarState) (a : ℕ) → Address a → asks b 0 4 a ≡ barWrite.Relocate a
 unfolding asks
-address-relocates b a h k =
-    let e : a % fourGib ≡ a = omega arith in
-    rw (merge-whole (committed (b .address)) a, e) (class-relocate a (aligned-no-probe a k) ∙ ap barWrite.Relocate (candidate-is a k))
+address-relocates b a h =
+    let e : a % fourGib ≡ a = omega (arith, address-lt a h) in
+    rw (merge-whole (committed (b .address)) a, e) (class-relocate a (h .quiet) ∙ ap barWrite.Relocate (address-candidate a h))
 
 -- what the register reads while probing, and else
 pub shown-probing : (b : BarState) → b .probing ≡ true → shown b ≡ sizeMask (b .plan .size)

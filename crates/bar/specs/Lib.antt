@@ -3,3 +3,4 @@ pub mod Range
 pub mod Bar
 pub mod Register
 pub mod State
+pub mod Bounded

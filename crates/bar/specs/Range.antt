@@ -1,7 +1,9 @@
 -- Ranges of addresses, for placement, relocation and lookup alike. Sums are of natural numbers, so no range wraps.
-use Prim.Native.Nat.{ℕ, _+_, _%_, _^_, min, max}
+use Prim.Native.Nat.{ℕ, _+_, _%_, _^_}
 use mathlib.Core.Bool.{Bool, _&&_, cond}
 use lib.Dec.{ltb, leb, eqb}
+use Rattle.refusal.specs.Number.{accepted, badAperture}
+use Rattle.word.specs.Interval.{overlap}
 use Rattle.bar.specs.declared.range.Range.{Range}
 use Rattle.bar.specs.declared.range.Aperture.{Aperture}
 use Rattle.bar.specs.declared.range.ApertureAnswer.{ApertureAnswer}
@@ -26,11 +28,16 @@ multiple r = eqb (r .start % r .size) 0
 unfoldable pub liesIn : Aperture → Range → Bool
 liesIn a r = leb (a .start) (r .start) && leb (endOf r) (a .end)
 
--- "meets": some address lies in both (proofs/Ranges.antt shows that it is this), so an empty range meets nothing
+-- "meets": some address lies in both, so an empty range meets nothing
 unfoldable pub meets : Range → Range → Bool
-meets r s = ltb (max (r .start) (s .start)) (min (endOf r) (endOf s))
+meets r s = overlap (r .start) (r .size) (s .start) (s .size)
 
 -- refusal 8: not start < end, or end above the most
 unfoldable pub apertureOf : ℕ → ℕ → ℕ → ApertureAnswer
 apertureOf most start end =
     cond (ltb start end && leb end most) (apertureAnswer.Good (record { start = start; end = end })) apertureAnswer.Bad
+
+-- document 01's number for each answer
+abbrev pub apertureNumber : ApertureAnswer → ℕ
+apertureNumber (apertureAnswer.Good a) = accepted
+apertureNumber apertureAnswer.Bad = badAperture

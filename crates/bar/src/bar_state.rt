@@ -1,5 +1,6 @@
 // The state of a placed BAR.
 ghost use mathlib.Core.Path.{_≡_};
+ghost use Rattle.bar.specs.Register.{committed};
 ghost use Rattle.bar.specs.State.{fresh, resetOf, shown, asks, probed, relocated, rangeOf};
 use crate::range::Range;
 use crate::register::candidate_address;
@@ -47,6 +48,14 @@ impl BarState {
         }
     }
 
+    // The dword that a write merges into, also while probing.
+    pub fn committed_dword(self) -> u32
+        ensures { λ r. ⌜ r ≡ committed (self .address) ⌝ }
+    {
+        let address = self.address;
+        committed_dword(address)
+    }
+
     // What the register reads.
     pub fn raw_dword(self) -> u64
         ensures { λ r. ⌜ r ≡ shown self ⌝ }
@@ -62,7 +71,7 @@ impl BarState {
     pub fn write(self, lane: usize, width: usize, value: u64) -> BarWrite
         ensures { λ r. ⌜ r ≡ asks self lane width value ⌝ }
     {
-        let dword = word::merged(committed_dword(self.address), lane, width, value);
+        let dword = word::merged(self.committed_dword(), lane, width, value);
         let probe = starts_probe(dword);
         if probe {
             BarWrite::Probe

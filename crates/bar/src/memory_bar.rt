@@ -1,6 +1,6 @@
 // A BAR as it is declared.
 ghost use mathlib.Core.Path.{_≡_};
-ghost use Rattle.bar.specs.Bar.{sizeOk, barOf, noBar};
+ghost use Rattle.bar.specs.Bar.{sizeOk, barOf, barNumber, noBar};
 use crate::range::FOUR_GIB;
 use address::Slot;
 
@@ -20,17 +20,33 @@ pub enum BarAnswer {
     Bad,
 }
 
-// Refusal 7 is given where this is false.
+impl BarAnswer {
+    // Document 01's number for the answer.
+    pub fn number(self) -> u8
+        ensures { λ r. ⌜ r ≡ barNumber self ⌝ }
+    {
+        match self {
+            BarAnswer::Good(_) => refusal::ACCEPTED,
+            BarAnswer::Bad => refusal::BAD_SIZE,
+        }
+    }
+}
+
+const LEAST_SIZE: u64 = 16;
+
+const MOST_SIZE: u64 = FOUR_GIB;
+
+// Whether a BAR may have the size: a power of two between the least and the largest.
 pub fn size_ok(size: u64) -> bool
     ensures { λ r. ⌜ r ≡ sizeOk size ⌝ }
 {
-    if size < 16 {
+    if size < LEAST_SIZE {
         return false;
     }
-    if FOUR_GIB < size {
+    if MOST_SIZE < size {
         return false;
     }
-    let mut power: u64 = 16;
+    let mut power: u64 = LEAST_SIZE;
     while power < size {
         power = power * 2;
     }

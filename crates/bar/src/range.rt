@@ -1,6 +1,6 @@
 // Ranges of addresses and the aperture that they must lie in.
 ghost use mathlib.Core.Path.{_≡_};
-ghost use Rattle.bar.specs.Range.{multiple, liesIn, meets, apertureOf, fourGib};
+ghost use Rattle.bar.specs.Range.{multiple, liesIn, meets, apertureOf, apertureNumber, fourGib};
 
 pub const FOUR_GIB: u64 = 0x1_0000_0000;
 
@@ -23,8 +23,20 @@ pub enum ApertureAnswer {
     Bad,
 }
 
+impl ApertureAnswer {
+    // Document 01's number for the answer.
+    pub fn number(self) -> u8
+        ensures { λ r. ⌜ r ≡ apertureNumber self ⌝ }
+    {
+        match self {
+            ApertureAnswer::Good(_) => refusal::ACCEPTED,
+            ApertureAnswer::Bad => refusal::BAD_APERTURE,
+        }
+    }
+}
+
 impl Aperture {
-    // Refusal 8.
+    // An aperture is not empty and ends at 4 GiB at most.
     pub fn new(start: u64, end: u64) -> ApertureAnswer
         ensures { λ r. ⌜ r ≡ apertureOf fourGib start end ⌝ }
     {
@@ -64,15 +76,6 @@ impl Range {
     pub fn meets(self, other: Range) -> bool
         ensures { λ r. ⌜ r ≡ meets self other ⌝ }
     {
-        if self.start < other.start {
-            if other.size == 0 {
-                return false;
-            }
-            return other.start - self.start < self.size;
-        }
-        if self.size == 0 {
-            return false;
-        }
-        self.start - other.start < other.size
+        word::overlap(self.start, self.size, other.start, other.size)
     }
 }

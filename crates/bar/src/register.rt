@@ -3,6 +3,12 @@ ghost use mathlib.Core.Path.{_≡_};
 ghost use Rattle.bar.specs.Register.{sizeMask, candidate, committed, startsProbe};
 use crate::range::FOUR_GIB;
 
+// The low four bits of a register are not part of an address.
+const ADDRESS_UNIT: u64 = 0x10;
+
+// The dword that starts a probe.
+const PROBE: u32 = 0xffff_ffff;
+
 // What a probe reads; a size above 4 GiB, which no BAR has, reads 0.
 pub fn size_mask(size: u64) -> u64
     ensures { λ r. ⌜ r ≡ sizeMask size ⌝ }
@@ -17,18 +23,18 @@ pub fn size_mask(size: u64) -> u64
 pub fn candidate_address(dword: u32) -> u64
     ensures { λ r. ⌜ r ≡ candidate dword ⌝ }
 {
-    (dword / 16 * 16) as u64
+    (dword as u64) / ADDRESS_UNIT * ADDRESS_UNIT
 }
 
 // An address as the register shows it.
 pub fn committed_dword(address: u64) -> u32
     ensures { λ r. ⌜ r ≡ committed address ⌝ }
 {
-    (address % FOUR_GIB / 16 * 16) as u32
+    (address % FOUR_GIB / ADDRESS_UNIT * ADDRESS_UNIT) as u32
 }
 
 pub fn starts_probe(dword: u32) -> bool
     ensures { λ r. ⌜ r ≡ startsProbe dword ⌝ }
 {
-    dword == 0xffff_ffff
+    dword == PROBE
 }

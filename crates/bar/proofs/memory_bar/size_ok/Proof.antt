@@ -1,4 +1,4 @@
--- `size_ok` doubles from 16: the power is never above the least power that could be the size. Assumes nothing.
+-- `size_ok` doubles from 16: the power is never above the least power that could be the size.
 use Prim.Native.Nat.{ℕ, _+_, _-_, _*_, _^_, _<_, _≤_}
 use mathlib.Core.Path.{_≡_, refl, sym, _∙_}
 use native.Mathlib.Nat.{pow-suc}

@@ -1,4 +1,4 @@
--- `committed_dword` is the definition. Assumes nothing.
+-- `committed_dword` is the definition.
 use mathlib.Core.Path.{refl}
 use Rattle.bar.specs.Register.{committed, candidate}
 use borrow.Author.Needs.{needs}

@@ -1,4 +1,4 @@
--- `size_mask` subtracts where it can. Assumes nothing.
+-- `size_mask` subtracts where it can.
 use native.Mathlib.Omega.{arith}
 use Rattle.bar.specs.Register.{sizeMask}
 use Rattle.bar.proofs.register.size_mask.Statement.{statement}

@@ -1,4 +1,4 @@
--- `starts_probe` is the definition. Assumes nothing.
+-- `starts_probe` is the definition.
 use mathlib.Core.Path.{refl}
 use Rattle.bar.specs.Register.{startsProbe}
 use Rattle.bar.proofs.register.starts_probe.Statement.{statement}

@@ -1,4 +1,4 @@
--- `finish_relocation` goes by the two cases. Assumes nothing.
+-- `finish_relocation` goes by the two cases.
 use borrow.Author.Needs.{needs}
 use Rattle.bar.proofs.bar_state.BarState.finish_relocation.Statement.{statement}
 use Rattle.bar.proofs.bar_state.BarState.finish_relocation.Tie as tie

@@ -1,4 +1,4 @@
--- `raw_dword` is the mask while probing, the committed dword else. Assumes nothing.
+-- `raw_dword` is the mask while probing, the committed dword else.
 use mathlib.Core.Path.{sym, _∙_}
 use Rattle.bar.proofs.States.{shown-probing, shown-committed}
 use borrow.Author.Needs.{needs}

@@ -1,4 +1,4 @@
--- `write` merges into the committed dword and classifies the result. Assumes nothing.
+-- `write` merges into the committed dword and classifies the result.
 use Rattle.word.specs.Number.{merge}
 use Rattle.bar.specs.Register.{committed}
 use mathlib.Core.Path.{_≡_, sym, _∙_}

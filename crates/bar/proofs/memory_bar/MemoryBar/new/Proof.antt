@@ -1,4 +1,4 @@
--- `MemoryBar::new` goes by the size rule. Assumes nothing.
+-- `MemoryBar::new` goes by the size rule.
 use mathlib.Core.Path.{sym, _∙_}
 use Rattle.bar.proofs.Sizes.{bar-good, bar-bad}
 use borrow.Author.Needs.{needs}

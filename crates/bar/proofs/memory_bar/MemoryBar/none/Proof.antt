@@ -1,4 +1,4 @@
--- `MemoryBar::none` is the blank. Assumes nothing.
+-- `MemoryBar::none` is the blank.
 use borrow.Author.Needs.{needs}
 use Rattle.bar.proofs.memory_bar.MemoryBar.none.Statement.{statement}
 use Rattle.bar.proofs.memory_bar.MemoryBar.none.Tie as tie

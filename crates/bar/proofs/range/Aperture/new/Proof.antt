@@ -1,4 +1,4 @@
--- `Aperture::new` refuses exactly by the two tests. Assumes nothing.
+-- `Aperture::new` refuses exactly by the two tests.
 use mathlib.Core.Path.{sym}
 use Rattle.bar.proofs.Ranges.{aperture-good, aperture-empty, aperture-past}
 use Rattle.bar.proofs.range.Aperture.new.Statement.{statement}

@@ -1,4 +1,4 @@
--- `lies_in` compares what the aperture has from the start on with the size. Assumes nothing.
+-- `lies_in` compares what the aperture has from the start on with the size.
 use mathlib.Core.Path.{sym}
 use native.Mathlib.Omega.{arith}
 use Rattle.bar.proofs.Ranges.{lies-before, lies-after, lies-rest}

@@ -1,4 +1,4 @@
--- `multiple` is the remainder; by a size of 0 it is the start itself. Assumes nothing.
+-- `multiple` is the remainder; by a size of 0 it is the start itself.
 use mathlib.Core.Path.{refl}
 use native.Mathlib.Nat.{mod-zero}
 use Rattle.bar.specs.Range.{multiple}
