@@ -10,16 +10,21 @@ use Rattle.word.proofs.Tests.{below-or-not}
 use Rattle.word.proofs.Tables.{getD-table}
 use Rattle.bar.specs.Range.{fourGib, meets}
 use Rattle.bar.specs.Bar.{noBar}
+use Rattle.bar.specs.State.{fresh}
+use Rattle.bar.specs.Bounded.{Bounded}
 use Rattle.bar.specs.declared.range.Aperture.{Aperture}
+use Rattle.bar.specs.declared.bar_state.Plan.{Plan}
 use Rattle.bar.specs.declared.memory_bar.MemoryBar.{MemoryBar}
 use Rattle.bar.specs.declared.memory_bar.Request.the-variants.{Auto, Fixed}
 use Rattle.bar.proofs.Ranges.{meets-sym, empty-first, empty-second}
+use Rattle.bar.proofs.States.{fresh-bounded}
 use Rattle.placement.specs.Keys.{keyCount, declaredAt, barsOf}
-use Rattle.placement.specs.Place.{isPlace}
+use Rattle.placement.specs.Place.{isPlace, Lowest}
 use Rattle.placement.specs.Order.{sizeAt, requestAt, precedes, rangeAt, placedBefore}
 use Rattle.placement.specs.Answer.{placementOf}
-use Rattle.placement.specs.Outcome.{Accepted, Resolved}
+use Rattle.placement.specs.Outcome.{AllGiven, Resolved}
 use Rattle.placement.specs.declared.declared_bars.DeclaredBars.{DeclaredBars}
+use Rattle.placement.specs.declared.search.Fit.the-variants.{At}
 use Rattle.placement.specs.declared.answer.PlacementAnswer.the-variants as answer
 use Rattle.placement.proofs.Places.{place-is, place-end}
 use Rattle.placement.proofs.Orders.{one-precedes}
@@ -32,7 +37,7 @@ pub bars-at : (d : DeclaredBars) (k : ℕ) → k < keyCount → getD (barsOf d) 
 unfolding barsOf
 bars-at d k h = getD-table keyCount (declaredAt d) k noBar h
 
-module _ (aperture : Aperture) (bars : List MemoryBar) (addresses : List ℕ) (a : Accepted aperture bars addresses) where
+module _ (aperture : Aperture) (bars : List MemoryBar) (addresses : List ℕ) (a : AllGiven aperture bars addresses) where
   -- a fixed BAR's address is a place, and that of any BAR with a size
   fixed-place : (k b : ℕ) → k < keyCount → requestAt bars k ≡ Fixed b → isPlace aperture (sizeAt bars k) (placedBefore bars addresses k) (getD addresses k 0) ≡ true
   fixed-place k b h e = let g = a .given k h .fixed b e in rw (g .0) (g .1)
@@ -77,9 +82,23 @@ module _ (aperture : Aperture) (bars : List MemoryBar) (addresses : List ℕ) (a
       (by-request (requestAt bars k))
 
 module _ (aperture : Aperture) (d : DeclaredBars) (e : placementOf aperture d .answer ≡ answer.Placed) where
-  pub placement-resolved : Resolved aperture (barsOf d) (placementOf aperture d .addresses)
-  placement-resolved = accepted-resolved aperture (barsOf d) (placementOf aperture d .addresses) (when-accepted aperture d e)
+  abbrev bars : List MemoryBar
+  bars = barsOf d
+
+  abbrev addresses : List ℕ
+  addresses = placementOf aperture d .addresses
+
+  pub placement-resolved : Resolved aperture bars addresses
+  placement-resolved = accepted-resolved aperture bars addresses (when-accepted aperture d e)
+
+  -- an automatic BAR has the lowest place that those placed before it leave
+  pub automatic-lowest : (k : ℕ) → k < keyCount → requestAt bars k ≡ Auto → 0 < sizeAt bars k → Lowest aperture (sizeAt bars k) (placedBefore bars addresses k) (At (getD addresses k 0))
+  automatic-lowest k h f z = when-accepted aperture d e .given k h .automatic f z
 
   -- in an aperture that ends at 4 GiB at most, so does every BAR
-  pub placement-bounded : aperture .end ≤ fourGib → (k : ℕ) → k < keyCount → getD (placementOf aperture d .addresses) k 0 + sizeAt (barsOf d) k ≤ fourGib
-  placement-bounded h k l = accepted-end aperture (barsOf d) (placementOf aperture d .addresses) (when-accepted aperture d e) k fourGib l h
+  module _ (h : aperture .end ≤ fourGib) (k : ℕ) (l : k < keyCount) where
+    pub placement-end : getD addresses k 0 + sizeAt bars k ≤ fourGib
+    placement-end = accepted-end aperture bars addresses (when-accepted aperture d e) k fourGib l h
+
+    pub placement-bounded : 0 < sizeAt bars k → (p : Plan) → p .address ≡ getD addresses k 0 → Bounded (fresh p)
+    placement-bounded z p q = fresh-bounded p (omega (arith, placement-end))

@@ -29,7 +29,7 @@ use Rattle.placement.proofs.Nexts.{Foremost}
 use Rattle.placement.proofs.Largests.{none-waits}
 use Rattle.placement.proofs.Rules.{by-request}
 use Rattle.placement.proofs.Cases.{auto-cases}
-use Rattle.placement.proofs.Sounds.{Sound, sound-same, turn-fault, turn-given}
+use Rattle.placement.proofs.Sounds.{Sound, sound-same, turn-refused, turn-given}
 use Rattle.placement.proofs.FixedPass.{Kept, kept-going, kept-refused, fixedBelow, below-auto, below-fixed}
 
 module _ (aperture : Aperture) (bars : List MemoryBar) where
@@ -137,7 +137,7 @@ module _ (aperture : Aperture) (bars : List MemoryBar) where
       auto-cases aperture bars t (Kept aperture bars X)
       (λ e. (λ v. record { sound = j .0 v .sound; ahead = j .0 v .ahead; left = inr (none-waits bars (t .placed) (e v)) }, j .1))
       (λ x a v h f g. kept-going aperture bars X _ (ahead-more n x (t .placed) h f (j .0 v) a g))
-      (λ x v h f r. kept-refused aperture bars X (t .placed) _ x (turn-fault aperture bars x (t .placed) h (next-sound n x (t .placed) h f (j .0 v)) _ r))
+      (λ x v h f r. kept-refused aperture bars X (t .placed) _ x (turn-refused aperture bars x (t .placed) h (next-sound n x (t .placed) h f (j .0 v)) _ r))
 
   -- after as many turns as there are keys nothing waits
   pub all-done : (placed : List Range) → Ahead keyCount placed → (k : ℕ) → k < keyCount → waits bars placed k ≡ false

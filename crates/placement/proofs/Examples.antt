@@ -11,14 +11,15 @@ use Rattle.bar.specs.declared.range.Range.{Range}
 use Rattle.bar.proofs.Ranges.{multiple-zero, lies-from, lies-end, meeting-meets}
 use Rattle.word.specs.Table.{table}
 use Rattle.word.specs.Search.{anyBelow, firstBelow, firstOf}
+use Rattle.word.specs.Interval.{overlap}
 use Rattle.word.proofs.Tests.{both, never}
 use Rattle.placement.specs.Keys.{keyCount}
 use Rattle.placement.specs.Place.{noRange, meetsAny, isPlace, Lowest}
 use Rattle.placement.specs.Keys.{slotBar, declaredAt, barsOf}
 use Rattle.placement.specs.Order.{comesBefore}
 use Rattle.placement.specs.Passes.{placing, nothingYet, fixedVerdict, fixedStep, fixedAfter, waits, isNext, nextOf, autoAfter}
-use Rattle.placement.specs.Answer.{addressesOf, accepted, placementOf}
-use Rattle.placement.specs.Examples.{p9Aperture, oneAutomatic, runAperture, runBars, runAddresses, twoFixed, refusedBy, asked, told}
+use Rattle.placement.specs.Answer.{addressesOf, allPlaced, refusedBy, placementOf}
+use Rattle.placement.specs.Examples.{p9Aperture, oneAutomatic, runAperture, runBars, runAddresses, twoFixed, asked, told}
 use Rattle.placement.specs.declared.search.Fit.the-variants as fit
 use Rattle.placement.specs.declared.automatic.Next.the-variants as next
 use Rattle.placement.specs.declared.placing.Verdict.the-variants.{Going, Refused}
@@ -62,7 +63,7 @@ run-below placed size b e f z =
     both (meeting-meets (range b size) (range 0x80000000 0x1000) (record { first-full = z; second-full = omega arith; first-starts = omega arith; second-starts = omega arith })) (rw f at (p .free 1)))
 
 run-large : Lowest runAperture 0x4000 run1 (fit.At 0x80004000)
-unfolding isPlace meetsAny anyBelow multiple liesIn meets
+unfolding isPlace meetsAny anyBelow multiple liesIn meets overlap
 run-large = (
   refl,
   λ b h. never (isPlace runAperture 0x4000 run1 b) (λ t.
@@ -71,7 +72,7 @@ run-large = (
 )
 
 run-small : Lowest runAperture 0x1000 run2 (fit.At 0x80001000)
-unfolding isPlace meetsAny anyBelow multiple liesIn meets
+unfolding isPlace meetsAny anyBelow multiple liesIn meets overlap
 run-small = (
   refl,
   λ b h. never (isPlace runAperture 0x1000 run2 b) (λ t.
@@ -80,7 +81,7 @@ run-small = (
 )
 
 run-fixed : fixedAfter runAperture (barsOf runBars) keyCount ≡ placing Going run1
-unfolding fixedAfter fixedStep fixedVerdict isPlace meetsAny anyBelow multiple liesIn meets barsOf table declaredAt slotBar firstOf firstBelow
+unfolding fixedAfter fixedStep fixedVerdict isPlace meetsAny anyBelow multiple liesIn meets overlap barsOf table declaredAt slotBar firstOf firstBelow
 run-fixed = refl
 
 run-nexts : (nextOf (barsOf runBars) run1 ≡ next.At 6) × (nextOf (barsOf runBars) run2 ≡ next.At 0) × (nextOf (barsOf runBars) run3 ≡ next.Nothing)
@@ -94,7 +95,7 @@ run-auto =
     run-placed runAperture (barsOf runBars) run2 46 0 0x80001000 (run-nexts .1) run-small ∙
     run-done runAperture (barsOf runBars) run3 46 (run-nexts .2)
 
-pub run : placementOf runAperture runBars ≡ accepted runAddresses
+pub run : placementOf runAperture runBars ≡ allPlaced runAddresses
 unfolding addressesOf table
 run = answer-from runAperture runBars (placing Going run1) (placing Going run3) run-fixed run-auto
 
@@ -103,7 +104,7 @@ abbrev two1 : List Range
 two1 = set (replicate keyCount noRange) 0 (range 0x80000000 0x4000)
 
 fixed-refusals : (fixedAfter runAperture (barsOf (twoFixed 0x80008010)) keyCount ≡ placing (Refused notMultiple 1) two1) × (fixedAfter runAperture (barsOf (twoFixed 0xfffffffffffff000)) keyCount ≡ placing (Refused outsideAperture 1) two1) × (fixedAfter runAperture (barsOf (twoFixed 0x80003000)) keyCount ≡ placing (Refused overlapsPlaced 1) two1)
-unfolding fixedAfter fixedStep fixedVerdict isPlace meetsAny anyBelow multiple liesIn meets barsOf table declaredAt slotBar firstOf firstBelow
+unfolding fixedAfter fixedStep fixedVerdict isPlace meetsAny anyBelow multiple liesIn meets overlap barsOf table declaredAt slotBar firstOf firstBelow
 fixed-refusals = (refl, refl, refl)
 
 -- the examples, as one statement

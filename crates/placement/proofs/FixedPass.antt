@@ -17,23 +17,23 @@ use Rattle.placement.specs.Keys.{keyCount}
 use Rattle.placement.specs.Place.{noRange}
 use Rattle.placement.specs.Order.{requestAt, precedes}
 use Rattle.placement.specs.Passes.{isAuto, nothingYet, fixedAfter}
-use Rattle.placement.specs.Outcome.{Fault}
+use Rattle.placement.specs.Outcome.{FirstRefused}
 use Rattle.placement.specs.declared.placing.Verdict.the-variants.{Going, Refused}
 use Rattle.placement.specs.declared.placing.Placing.{Placing}
 use Rattle.placement.proofs.Orders.{among-fixed, auto-last}
 use Rattle.placement.proofs.Rules.{by-request}
 use Rattle.placement.proofs.Cases.{fixed-cases, stopped}
-use Rattle.placement.proofs.Sounds.{Sound, sound-same, turn-fault, turn-given}
+use Rattle.placement.proofs.Sounds.{Sound, sound-same, turn-refused, turn-given}
 
 module _ (aperture : Aperture) (bars : List MemoryBar) where
   -- what a pass keeps: something of what is placed while it goes on, and a row once it is refused
   abbrev pub Kept : (List Range → Type 0) → Placing → Type 0
-  Kept X s = (s .verdict ≡ Going → X (s .placed)) × ((number key : ℕ) → s .verdict ≡ Refused number key → Fault aperture bars number key)
+  Kept X s = (s .verdict ≡ Going → X (s .placed)) × ((number key : ℕ) → s .verdict ≡ Refused number key → FirstRefused aperture bars number key)
 
   pub kept-going : (X : List Range → Type 0) (placed : List Range) → X placed → Kept X (record { verdict = Going; placed = placed })
   kept-going X placed x = (λ v. x, λ number key e. absurd (stopped Going number key refl e))
 
-  pub kept-refused : (X : List Range → Type 0) (placed : List Range) (number key : ℕ) → Fault aperture bars number key → Kept X (record { verdict = Refused number key; placed = placed })
+  pub kept-refused : (X : List Range → Type 0) (placed : List Range) (number key : ℕ) → FirstRefused aperture bars number key → Kept X (record { verdict = Refused number key; placed = placed })
   kept-refused X placed number key f = (
     λ v. absurd (stopped (Refused number key) number key v refl),
     λ m k e. let p : number ≡ m = cc in let q : key ≡ k = cc in rw (← p, ← q) f,
@@ -82,4 +82,4 @@ module _ (aperture : Aperture) (bars : List MemoryBar) where
       kept-going X _ (turn-given aperture bars n (s .placed) (omega arith) t a g (fixedBelow (suc n)) (below-fixed (suc n) n a e ∙ lt-ltb n (suc n) (omega arith)) (λ k l d. sym (below-other n k d) ∙ below-turn n k a e)))
       (λ a number v e r.
       let t = sound-same aperture bars (fixedBelow n) (λ k. precedes bars k n) (s .placed) (λ k l. below-turn n k a e) (i .0 v) in
-      kept-refused X (s .placed) number n (turn-fault aperture bars n (s .placed) (omega arith) t number r))
+      kept-refused X (s .placed) number n (turn-refused aperture bars n (s .placed) (omega arith) t number r))

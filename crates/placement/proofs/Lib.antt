@@ -16,6 +16,7 @@ pub mod Cases
 pub mod Sounds
 pub mod FixedPass
 pub mod AutoPass
+pub mod Agrees
 pub mod Outcomes
 pub mod Answers
 pub mod Runs

@@ -15,7 +15,7 @@ use Rattle.bar.specs.declared.memory_bar.Request.{Request}
 use Rattle.bar.specs.declared.memory_bar.Request.the-variants.{Auto, Fixed}
 use Rattle.placement.specs.Place.{meetsAny, isPlace, Lowest}
 use Rattle.placement.specs.Passes.{firstFault, fixedVerdict}
-use Rattle.placement.specs.Rule.{Given, Row, row14, row15, row16, row17}
+use Rattle.placement.specs.Rule.{Given, Row14, Row15, Row16, Row17, Row, row14, row15, row16, row17}
 use Rattle.placement.specs.declared.search.Fit.the-variants.{At}
 use Rattle.placement.specs.declared.placing.Verdict.{Verdict}
 use Rattle.placement.specs.declared.placing.Verdict.the-variants.{Going, Refused}
@@ -82,6 +82,25 @@ module _ (aperture : Aperture) (bar : MemoryBar) (placed : List Range) where
 
   pub row-same : (n m : ℕ) → Row aperture bar placed n → Row aperture bar placed m → n ≡ m
   row-same n m r s = row-number n r ∙ sym (row-number m s)
+
+  -- what a number says
+  row-is : (n : ℕ) → Row aperture bar placed n → (n ≡ notMultiple → Row14 bar) × (n ≡ outsideAperture → Row15 aperture bar) × (n ≡ overlapsPlaced → Row16 aperture bar placed) × (n ≡ noPlace → Row17 aperture bar placed)
+  row-is n (row14 r) = (λ e. r, λ e. absurd (omega arith), λ e. absurd (omega arith), λ e. absurd (omega arith))
+  row-is n (row15 r) = (λ e. absurd (omega arith), λ e. r, λ e. absurd (omega arith), λ e. absurd (omega arith))
+  row-is n (row16 r) = (λ e. absurd (omega arith), λ e. absurd (omega arith), λ e. r, λ e. absurd (omega arith))
+  row-is n (row17 r) = (λ e. absurd (omega arith), λ e. absurd (omega arith), λ e. absurd (omega arith), λ e. r)
+
+  pub is-row14 : Row aperture bar placed notMultiple → Row14 bar
+  is-row14 r = row-is notMultiple r .0 refl
+
+  pub is-row15 : Row aperture bar placed outsideAperture → Row15 aperture bar
+  is-row15 r = row-is outsideAperture r .1 refl
+
+  pub is-row16 : Row aperture bar placed overlapsPlaced → Row16 aperture bar placed
+  is-row16 r = row-is overlapsPlaced r .2 refl
+
+  pub is-row17 : Row aperture bar placed noPlace → Row17 aperture bar placed
+  is-row17 r = row-is noPlace r .3 refl
 
   -- what the checks of a fixed BAR say
   by-place : (t : Bool) (n k : ℕ) → cond t Going (Refused n k) ≡ Going → t ≡ true

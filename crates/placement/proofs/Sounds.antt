@@ -18,7 +18,7 @@ use Rattle.placement.specs.Place.{noRange}
 use Rattle.placement.specs.Order.{sizeAt, precedes, rangeAt, placedBefore}
 use Rattle.placement.specs.Answer.{addressesOf}
 use Rattle.placement.specs.Rule.{Given, Row}
-use Rattle.placement.specs.Outcome.{GivenAt, Fault}
+use Rattle.placement.specs.Outcome.{GivenAt, FirstRefused}
 use Rattle.placement.proofs.Orders.{precedes-self, not-back, precedes-other}
 
 -- the address at a key
@@ -68,8 +68,8 @@ module _ (aperture : Aperture) (bars : List MemoryBar) where
         (⊎-elim (λ (t : precedes bars k x ≡ true). rw (t, address-at placed k l, ← s .sized k l t)) (λ (t : precedes bars k x ≡ false). rw t (s .blank k l t)) (true-or-false (precedes bars k x))))
 
     -- it is refused by a row
-    pub turn-fault : (number : ℕ) → Row aperture (getD bars x noBar) placed number → Fault aperture bars number x
-    turn-fault number r =
+    pub turn-refused : (number : ℕ) → Row aperture (getD bars x noBar) placed number → FirstRefused aperture bars number x
+    turn-refused number r =
         record { within = h; addresses = addressesOf placed; before = s .given; row = rw (← turn-placed) r }
 
     -- or is given an address

@@ -30,18 +30,21 @@ addressesOf placed = table keyCount (λ key. getD placed key noRange .start)
 abbrev pub deviceOf : DeclaredBars → ℕ → ℕ
 deviceOf d f = getD (d .functions) f noFunction .device
 
--- the address of every key
-abbrev pub accepted : List ℕ → Placement
-accepted addresses = record { answer = answer.Placed; addresses = addresses }
+-- every key has its address
+abbrev pub allPlaced : List ℕ → Placement
+allPlaced addresses = record { answer = answer.Placed; addresses = addresses }
 
--- a refusal names the device and the slot of its key, and no address is given
-abbrev pub refused : DeclaredBars → ℕ → ℕ → Placement
-refused d n key =
-    record { answer = answer.Refused n (deviceOf d (key / barCount)) (key % barCount); addresses = replicate keyCount 0 }
+-- no address is given
+abbrev pub refusedBy : ℕ → ℕ → ℕ → Placement
+refusedBy n device slot = record { answer = answer.Refused n device slot; addresses = replicate keyCount 0 }
+
+-- a refusal names the device and the slot of its key
+abbrev pub refusedAt : DeclaredBars → ℕ → ℕ → Placement
+refusedAt d n key = refusedBy n (deviceOf d (key / barCount)) (key % barCount)
 
 abbrev pub answered : DeclaredBars → Verdict → List Range → Placement
-answered d Going placed = accepted (addressesOf placed)
-answered d (Refused n key) placed = refused d n key
+answered d Going placed = allPlaced (addressesOf placed)
+answered d (Refused n key) placed = refusedAt d n key
 
 unfoldable pub placementOf : Aperture → DeclaredBars → Placement
 placementOf aperture d = answered d (placingOf aperture (barsOf d) .verdict) (placingOf aperture (barsOf d) .placed)

@@ -11,11 +11,10 @@ use Rattle.bar.specs.declared.range.Aperture.{Aperture}
 use Rattle.bar.specs.declared.memory_bar.MemoryBar.{MemoryBar}
 use Rattle.bar.specs.declared.memory_bar.Request.the-variants.{Auto, Fixed}
 use Rattle.placement.specs.Keys.{keyCount, noFunction}
-use Rattle.placement.specs.Answer.{accepted, placementOf}
+use Rattle.placement.specs.Answer.{allPlaced, refusedBy, placementOf}
 use Rattle.placement.specs.declared.declared_bars.FunctionBars.{FunctionBars}
 use Rattle.placement.specs.declared.declared_bars.DeclaredBars.{DeclaredBars}
 use Rattle.placement.specs.declared.answer.Placement.{Placement}
-use Rattle.placement.specs.declared.answer.PlacementAnswer.the-variants as answer
 
 -- an array of n that begins with a list
 abbrev pub padded : {A : Type 0} → ℕ → A → List A → List A
@@ -27,10 +26,6 @@ functionOf device bars = record { device = device; count = length bars; bars = p
 
 abbrev pub declaredOf : List FunctionBars → DeclaredBars
 declaredOf functions = record { count = length functions; functions = padded functionRoom noFunction functions }
-
--- a refusal, by its number, device and slot
-abbrev pub refusedBy : ℕ → ℕ → ℕ → Placement
-refusedBy number device s = record { answer = answer.Refused number device s; addresses = replicate keyCount 0 }
 
 -- P9: "Aperture 0x80000010 to 0x80001010, automatic 0x1000: 17"; here at device 7, slot 2
 abbrev pub p9Aperture : Aperture
@@ -61,4 +56,4 @@ asked =
     placementOf runAperture (twoFixed 0x80008010) ∷ placementOf runAperture (twoFixed 0xfffffffffffff000) ∷ placementOf runAperture (twoFixed 0x80003000) ∷ []
 
 unfoldable pub told : List Placement
-told = refusedBy noPlace 7 2 ∷ accepted runAddresses ∷ refusedBy notMultiple 3 1 ∷ refusedBy outsideAperture 3 1 ∷ refusedBy overlapsPlaced 3 1 ∷ []
+told = refusedBy noPlace 7 2 ∷ allPlaced runAddresses ∷ refusedBy notMultiple 3 1 ∷ refusedBy outsideAperture 3 1 ∷ refusedBy overlapsPlaced 3 1 ∷ []

@@ -11,7 +11,7 @@ use Rattle.bar.specs.declared.memory_bar.MemoryBar.{MemoryBar}
 use Rattle.bar.specs.declared.memory_bar.Request.the-variants.{Fixed}
 use Rattle.placement.specs.Keys.{keyCount, barsOf}
 use Rattle.placement.specs.Order.{sizeAt, requestAt, precedes, rangeAt, placedBefore}
-use Rattle.placement.specs.Answer.{accepted, refused}
+use Rattle.placement.specs.Answer.{allPlaced, refusedAt}
 use Rattle.placement.specs.Rule.{Given, Row}
 use Rattle.placement.specs.declared.declared_bars.DeclaredBars.{DeclaredBars}
 use Rattle.placement.specs.declared.answer.Placement.{Placement}
@@ -21,12 +21,12 @@ abbrev pub GivenAt : Aperture → List MemoryBar → List ℕ → ℕ → Type 0
 GivenAt aperture bars addresses key = Given aperture (getD bars key noBar) (placedBefore bars addresses key) (getD addresses key 0)
 
 -- accepted: every BAR has its address
-pub record Accepted (aperture : Aperture) (bars : List MemoryBar) (addresses : List ℕ) : Type 0 where
+pub record AllGiven (aperture : Aperture) (bars : List MemoryBar) (addresses : List ℕ) : Type 0 where
   pub long : length addresses ≡ keyCount
   pub given : (key : ℕ) → key < keyCount → GivenAt aperture bars addresses key
 
 -- refused at a key: all that are placed before it can have their addresses, and this one is refused by a row
-pub record Fault (aperture : Aperture) (bars : List MemoryBar) (number key : ℕ) : Type 0 where
+pub record FirstRefused (aperture : Aperture) (bars : List MemoryBar) (number key : ℕ) : Type 0 where
   pub within : key < keyCount
   pub addresses : List ℕ
   pub before : (k : ℕ) → k < keyCount → precedes bars k key ≡ true → GivenAt aperture bars addresses k
@@ -34,8 +34,8 @@ pub record Fault (aperture : Aperture) (bars : List MemoryBar) (number key : ℕ
 
 -- the answer: one or the other
 pub data Outcome (aperture : Aperture) (d : DeclaredBars) : Placement → Type 0 where
-  all-given : (addresses : List ℕ) → Accepted aperture (barsOf d) addresses → Outcome aperture d (accepted addresses)
-  one-refused : (number key : ℕ) → Fault aperture (barsOf d) number key → Outcome aperture d (refused d number key)
+  all-given : (addresses : List ℕ) → AllGiven aperture (barsOf d) addresses → Outcome aperture d (allPlaced addresses)
+  one-refused : (number key : ℕ) → FirstRefused aperture (barsOf d) number key → Outcome aperture d (refusedAt d number key)
 
 -- what the addresses of an accepted placement are at all keys at once: each BAR is aligned, in the aperture, apart from all others, and where it asked to be
 pub record Resolved (aperture : Aperture) (bars : List MemoryBar) (addresses : List ℕ) : Type 0 where

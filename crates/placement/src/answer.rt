@@ -20,7 +20,7 @@ pub enum PlacementAnswer {
 }
 
 impl PlacementAnswer {
-    // Document 01's number.
+    // Document 01's number for the answer.
     pub fn number(self) -> u8
         ensures { λ r. ⌜ r ≡ placementNumber self ⌝ }
     {
