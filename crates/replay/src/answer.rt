@@ -1,10 +1,12 @@
-// Whether placement answers as a record says.
+// Placements; record.rt has the record.
+use crate::input::next;
 use crate::record::ADDRESSES;
+use crate::record::RECORD_SIZE;
 use crate::record::REFUSAL;
 use crate::record::number;
 use crate::request::declared;
 use bar::Aperture;
-use placement::BAR_LIMIT;
+use placement::KEY_COUNT;
 use placement::PlacementAnswer;
 use placement::resolve_bar_addresses;
 
@@ -33,9 +35,9 @@ fn same_verdict(record: &[u8], answer: PlacementAnswer) -> bool {
     }
 }
 
-fn same_addresses(record: &[u8], addresses: [u64; BAR_LIMIT]) -> bool {
+fn same_addresses(record: &[u8], addresses: [u64; KEY_COUNT]) -> bool {
     let mut key = 0;
-    while key < BAR_LIMIT {
+    while key < KEY_COUNT {
         if addresses[key] != number(record, ADDRESSES + key) {
             return false;
         }
@@ -45,7 +47,7 @@ fn same_addresses(record: &[u8], addresses: [u64; BAR_LIMIT]) -> bool {
 }
 
 // Both the verdict and every address.
-pub fn same_placement(record: &[u8]) -> bool {
+fn same_answer(record: &[u8]) -> bool {
     let aperture = Aperture {
         start: number(record, 0),
         end: number(record, 1),
@@ -58,4 +60,14 @@ pub fn same_placement(record: &[u8]) -> bool {
         return same_addresses(record, addresses);
     }
     false
+}
+
+// Whether the record is there and the library answers as it says.
+pub fn same_placement() -> bool {
+    let mut record = [0u8; RECORD_SIZE];
+    let whole = next(&mut record);
+    if !whole {
+        return false;
+    }
+    same_answer(&record)
 }

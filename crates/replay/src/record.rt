@@ -1,4 +1,4 @@
-// A record: the aperture's start and end; 48 times 0 none, 1 automatic or 2 fixed, with size and address; 8 devices;
+// A record of a placement: the aperture's start and end; 48 times 0 none, 1 automatic or 2 fixed, with size and address; 8 devices;
 // then what axdevice answered: the refusal or 0, its device and slot, and 48 addresses.
 pub const PLACES: usize = 2;
 
@@ -9,6 +9,8 @@ pub const REFUSAL: usize = 154;
 pub const ADDRESSES: usize = 157;
 
 const NUMBERS: usize = 205;
+
+pub const RECORD_SIZE: usize = NUMBERS * 8;
 
 // The number at an index; 0 past the last.
 pub fn number(record: &[u8], index: usize) -> u64 {

@@ -4,20 +4,20 @@ use crate::record::PLACES;
 use crate::record::number;
 use address::Slot;
 use address::SlotAnswer;
+use address::limits::BAR_SLOTS;
+use address::limits::FUNCTION_LIMIT;
 use bar::BarAnswer;
 use bar::MemoryBar;
 use bar::Request;
 use placement::DeclaredBars;
-use placement::FUNCTION_LIMIT;
 use placement::FunctionBars;
-use placement::SLOTS;
 
 const KIND_NONE: u64 = 0;
 
 const KIND_FIXED: u64 = 2;
 
 fn slot_at(index: usize) -> Slot {
-    if index < SLOTS {
+    if index < BAR_SLOTS {
         match Slot::new(index as u8) {
             SlotAnswer::Good(slot) => return slot,
             SlotAnswer::Bad => {}
@@ -36,9 +36,9 @@ fn request_of(kind: u64, address: u64) -> Request {
 // Number `part` of what the record has of a slot of a function: kind, size, address.
 fn number_of(record: &[u8], function: usize, slot: usize, part: usize) -> u64 {
     if function < FUNCTION_LIMIT {
-        if slot < SLOTS {
+        if slot < BAR_SLOTS {
             if part < 3 {
-                return number(record, PLACES + (function * SLOTS + slot) * 3 + part);
+                return number(record, PLACES + (function * BAR_SLOTS + slot) * 3 + part);
             }
         }
     }
@@ -58,11 +58,11 @@ fn bar_in(record: &[u8], function: usize, slot: usize) -> MemoryBar {
     }
 }
 
-fn bars_in(record: &[u8], function: usize) -> [MemoryBar; SLOTS] {
+fn bars_in(record: &[u8], function: usize) -> [MemoryBar; BAR_SLOTS] {
     let none = MemoryBar::none();
-    let mut bars = [none; SLOTS];
+    let mut bars = [none; BAR_SLOTS];
     let mut slot = 0;
-    while slot < SLOTS {
+    while slot < BAR_SLOTS {
         let bar = bar_in(record, function, slot);
         bars[slot] = bar;
         slot += 1;
@@ -83,7 +83,7 @@ fn device_in(record: &[u8], function: usize) -> u8 {
 fn function_in(record: &[u8], function: usize) -> FunctionBars {
     FunctionBars {
         device: device_in(record, function),
-        count: SLOTS,
+        count: BAR_SLOTS,
         bars: bars_in(record, function),
     }
 }

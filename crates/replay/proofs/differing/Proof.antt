@@ -3,8 +3,8 @@
 use Prim.Native.Nat.{_+_, _≤_}
 use native.Mathlib.Omega.{arith}
 use mathlib.Core.Logic.{⊎-elim}
-use Rattle.replay_bar.proofs.differing.Statement.{statement}
-use Rattle.replay_bar.proofs.differing.Tie as tie
+use Rattle.replay.proofs.differing.Statement.{statement}
+use Rattle.replay.proofs.differing.Tie as tie
 
 abbrev Inv-loop : tie.InvT-loop
 Inv-loop records left₀ differ₀ left differ = differ + left ≤ records

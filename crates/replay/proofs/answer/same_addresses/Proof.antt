@@ -1,8 +1,8 @@
 -- `same_addresses` is safe and ends: the key stays within the 48. The measure is how many are left.
 use Prim.Native.Nat.{_-_, _≤_}
 use native.Mathlib.Omega.{arith}
-use Rattle.replay_place.proofs.answer.same_addresses.Statement.{statement}
-use Rattle.replay_place.proofs.answer.same_addresses.Tie as tie
+use Rattle.replay.proofs.answer.same_addresses.Statement.{statement}
+use Rattle.replay.proofs.answer.same_addresses.Tie as tie
 
 abbrev Inv-loop : tie.InvT-loop
 Inv-loop «record» addresses key₀ key = key ≤ 48

@@ -1,8 +1,8 @@
 -- `bars_in` is safe and ends: the slot stays within the six. The measure is how many are left.
 use Prim.Native.Nat.{_-_, _≤_}
 use native.Mathlib.Omega.{arith}
-use Rattle.replay_place.proofs.request.bars_in.Statement.{statement}
-use Rattle.replay_place.proofs.request.bars_in.Tie as tie
+use Rattle.replay.proofs.request.bars_in.Statement.{statement}
+use Rattle.replay.proofs.request.bars_in.Tie as tie
 
 abbrev Inv-loop : tie.InvT-loop
 Inv-loop «record» function bars₀ slot₀ bars slot = slot ≤ 6

@@ -1,8 +1,8 @@
 -- `declared` is safe and ends: the index stays within the eight. The measure is how many are left.
 use Prim.Native.Nat.{_-_, _≤_}
 use native.Mathlib.Omega.{arith}
-use Rattle.replay_place.proofs.request.declared.Statement.{statement}
-use Rattle.replay_place.proofs.request.declared.Tie as tie
+use Rattle.replay.proofs.request.declared.Statement.{statement}
+use Rattle.replay.proofs.request.declared.Tie as tie
 
 abbrev Inv-loop : tie.InvT-loop
 Inv-loop «record» functions₀ i₀ functions i = i ≤ 8
