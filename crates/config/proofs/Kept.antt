@@ -1,14 +1,12 @@
--- What no write, relocation or reset changes, and what a write may change: the laws that the truth of enumeration rests on. Assumes nothing.
+-- What no write, relocation or reset changes, and what a write may change: the laws that the truth of enumeration rests on.
 use Prim.Native.Nat.{ℕ, _+_, _<_, _≤_}
-use mathlib.Core.Bool.{true, false}
 use mathlib.Core.List.{List, map}
 use mathlib.Core.Logic.{_⊎_, inl, inr, ⊎-elim}
-use mathlib.Core.Path.{_≡_, refl, sym, ap, _∙_}
-use native.Mathlib.Omega.{arith}
+use mathlib.Core.Path.{_≡_, refl}
 use lib.ListN.{length, getD, set, List·getD-map}
 use lib.Seq.{getD-set-same, getD-set-other, set-out}
 use Rattle.word.proofs.Tests.{below-or-not, same-or-not}
-use Rattle.word.proofs.Blends.{bit}
+use Rattle.word.specs.Bit.{bit}
 use Rattle.word.proofs.Stores.{stored-out, stored-bit}
 use Rattle.address.specs.Kinds.{indexOf}
 use Rattle.address.specs.declared.slot.Slot.{Slot}
@@ -16,22 +14,19 @@ use Rattle.bar.specs.State.{resetOf, probed, relocated}
 use Rattle.bar.specs.declared.bar_state.BarState.{BarState}
 use Rattle.bar.specs.declared.bar_state.Relocation.{Relocation}
 use Rattle.bar.specs.declared.bar_state.Relocation.the-variants as relocation
-use Rattle.config.specs.State.{barAt, slotAt, inBar, withBar, noState}
-use Rattle.config.specs.Write.{writeOf, writeRefusal, relocatedAt}
+use Rattle.config.specs.Command.{Follows, stays}
+use Rattle.config.specs.Same.{Same}
+use Rattle.config.specs.Space.{spaceOf}
+use Rattle.config.specs.State.{barAt, slotAt, withBar, noState}
+use Rattle.config.specs.Write.{writeOf, writeNumber, relocatedAt}
 use Rattle.config.specs.Reset.{restored, resetDone}
 use Rattle.config.specs.declared.state.FunctionState.{FunctionState}
-use Rattle.config.specs.declared.write_step.WriteDone.{WriteDone}
-use Rattle.config.proofs.WriteCases.{Shown, write-by}
-
--- what a function is, apart from what a guest may change: power-on image, masks, capabilities and effects, and the plan of each slot
-pub record Same (f g : FunctionState) : Type 0 where
-  pub power-on : g .«power_on» ≡ f .«power_on»
-  pub mask : g .mask ≡ f .mask
-  pub placed : g .placed ≡ f .placed
-  pub plans : (i : ℕ) → barAt (g .bars) i .plan ≡ barAt (f .bars) i .plan
+use Rattle.config.proofs.WriteCases.{storedIn, write-by}
+use Rattle.config.proofs.Commands.{revision-follows}
 
 pub same-refl : (f : FunctionState) → Same f f
-same-refl f = record { power-on = refl; mask = refl; placed = refl; plans = λ i. refl }
+unfolding spaceOf
+same-refl f = record { space = refl; power-on = refl; mask = refl; placed = refl; plans = λ i. refl }
 
 -- another BAR in slot i leaves the other slots
 pub other-slot : (bars : List BarState) (i j : ℕ) (b : BarState) → (j ≡ i → ⊥) → barAt (set bars i b) j ≡ barAt bars j
@@ -44,10 +39,12 @@ same-plans bars i b e j =
     (λ (l : length bars ≤ i). rw (set-out bars i b l)) (below-or-not i (length bars))
 
 with-bar-same : (f : FunctionState) (i : ℕ) (b : BarState) → b .plan ≡ barAt (f .bars) i .plan → Same f (withBar f i b)
-with-bar-same f i b e = record { power-on = refl; mask = refl; placed = refl; plans = same-plans (f .bars) i b e }
+unfolding spaceOf
+with-bar-same f i b e = record { space = refl; power-on = refl; mask = refl; placed = refl; plans = same-plans (f .bars) i b e }
 
 -- no write changes them
 pub write-same : (f : FunctionState) (o w v : ℕ) → Same f (writeOf f o w v .state)
+unfolding spaceOf
 write-same f o w v =
     write-by (λ d. Same f (d .state)) f o w v
     (record {
@@ -57,7 +54,7 @@ write-same f o w v =
       effect = λ a i id region offset e. same-refl f;
       bad-effect = λ a i e. same-refl f;
       exhausts = λ a i e. same-refl f;
-      stores = λ a i u e. record { power-on = refl; mask = refl; placed = refl; plans = λ k. refl };
+      stores = λ a i u e. record { space = refl; power-on = refl; mask = refl; placed = refl; plans = λ k. refl };
     })
 
 by-relocation : (b : BarState) (r : Relocation) → relocated b r .plan ≡ b .plan
@@ -83,15 +80,16 @@ pub reset-live : (f : FunctionState) → resetDone f .state .live ≡ f .«power
 reset-live f = rw (reset-state f)
 
 pub reset-same : (f : FunctionState) → Same f (resetDone f .state)
-reset-same f = rw (reset-state f) (record { power-on = refl; mask = refl; placed = refl; plans = λ i. rw (reset-bar (f .bars) i) })
+unfolding spaceOf
+reset-same f = rw (reset-state f) (record { space = refl; power-on = refl; mask = refl; placed = refl; plans = λ i. rw (reset-bar (f .bars) i) })
 
 -- "18, 19, and 20 on a write, change nothing"
-pub refused-changes-nothing : (f : FunctionState) (o w v : ℕ) → (writeRefusal (writeOf f o w v .reply .answer) ≡ 0) ⊎ (writeOf f o w v .state ≡ f)
+pub refused-changes-nothing : (f : FunctionState) (o w v : ℕ) → (writeNumber (writeOf f o w v .reply .answer) ≡ 0) ⊎ (writeOf f o w v .state ≡ f)
 refused-changes-nothing f o w v =
-    write-by (λ d. (writeRefusal (d .reply .answer) ≡ 0) ⊎ (d .state ≡ f)) f o w v
+    write-by (λ d. (writeNumber (d .reply .answer) ≡ 0) ⊎ (d .state ≡ f)) f o w v
     (record { bad-access = λ e. inr refl; probing = λ a i. inl refl; candidate = λ a i x e. inl refl; effect = λ a i id region offset e. inl refl; bad-effect = λ a i e. inr refl; exhausts = λ a i e. inr refl; stores = λ a i u e. inl refl })
 
--- of the six BARs only the one written to can change
+-- of the BARs only the one written to can change
 pub other-bars : (f : FunctionState) (o w v j : ℕ) → (j ≡ slotAt o → ⊥) → barAt (writeOf f o w v .state .bars) j ≡ barAt (f .bars) j
 other-bars f o w v j h =
     write-by (λ d. barAt (d .state .bars) j ≡ barAt (f .bars) j) f o w v
@@ -119,3 +117,10 @@ pub unmasked-bit-stays : (f : FunctionState) (o w v j i : ℕ) → j < length (f
 unmasked-bit-stays f o w v j i l m k z =
     write-by (λ d. bit (getD (d .state .live) j 0) i ≡ bit (getD (f .live) j 0) i) f o w v
     (record { bad-access = λ e. refl; probing = λ a i. refl; candidate = λ a i x e. refl; effect = λ a i id region offset e. refl; bad-effect = λ a i e. refl; exhausts = λ a i e. refl; stores = λ a t u e. stored-bit (f .mask) (f .live) o w v j i l m k z })
+
+-- "A write that changes command bit 1, 2 or 10 adds 1", and no other does
+pub write-follows : (f : FunctionState) (o w v : ℕ) → Follows (f .live) (writeOf f o w v .state .live) (f .revision) (writeOf f o w v .state .revision)
+write-follows f o w v =
+    let same : Follows (f .live) (f .live) (f .revision) (f .revision) = stays (record { memory = refl; master = refl; interrupt = refl }) refl in
+    write-by (λ d. Follows (f .live) (d .state .live) (f .revision) (d .state .revision)) f o w v
+    (record { bad-access = λ e. same; probing = λ a i. same; candidate = λ a i x e. same; effect = λ a i id region offset e. same; bad-effect = λ a i e. same; exhausts = λ a i e. same; stores = λ a i u e. revision-follows (f .live) (storedIn f o w v) (f .revision) })

@@ -1,20 +1,20 @@
--- `capability_count` is the count, at most the length of the list. Assumes nothing.
-use mathlib.Core.Path.{_≡_}
-use native.Mathlib.Omega.{arith}
+-- `capability_count` is the count, at most the length of the list.
+use mathlib.Core.Path.{_≡_, _∙_}
 use borrow.Author.Needs.{needs}
 use lib.ListN.{length, length-take}
-use Rattle.capability.proofs.Spans.{long-unmapped}
+use Rattle.address.specs.Limits.{capabilityRoom}
+use Rattle.word.proofs.Mapped.{long-unmapped}
 use Rattle.config.proofs.power_on.capability_count.Statement.{statement}
 use Rattle.config.proofs.power_on.capability_count.Tie as tie
 
-long : (c : tie.Start) → length (c .args .placed .capabilities) ≡ 16
+long : (c : tie.Start) → length (c .args .placed .capabilities) ≡ capabilityRoom
 long c = search (needs, long-unmapped)
 
-returns : tie.Need-returns
-returns c = rw length-take (omega (arith, long (c .before)))
+at-most-requires : tie.Need-at-most-requires
+at-most-requires c κs = search needs
 
-returns-2 : tie.Need-returns-2
-returns-2 c = rw length-take (omega (arith, long (c .before)))
+returns : tie.Need-returns
+returns c = c .at-most .ensures ∙ rw (length-take, long (c .before))
 
 pub capability-count-spec : {M : Type 1} → statement M
-capability-count-spec = tie.close (tie.spec returns returns-2)
+capability-count-spec = tie.close (tie.spec at-most-requires returns)

@@ -1,18 +1,19 @@
--- `put_body` lays the part of the bytes that is the capability’s. Assumes nothing.
-use Prim.Native.Nat.{ℕ, _<_}
-use mathlib.Core.Path.{_≡_, sym, _∙_}
+-- `put_body` lays the part of the bytes that is the capability’s.
+use Prim.Native.Nat.{_<_}
+use mathlib.Core.Path.{_≡_}
 use native.Mathlib.Omega.{arith}
 use lib.ListN.{length}
-use Rattle.capability.proofs.Spans.{long-unmapped}
-use Rattle.config.proofs.PowerOns.{kept-below, kept-is}
+use Rattle.address.specs.Limits.{capabilityRoom}
+use Rattle.word.proofs.Mapped.{long-unmapped}
+use Rattle.config.proofs.Layings.{kept-below, kept-is}
 use borrow.Author.Needs.{needs}
 use Rattle.config.proofs.power_on.put_body.Statement.{statement}
 use Rattle.config.proofs.power_on.put_body.Tie as tie
 
-long : (c : tie.Start) → length (c .args .t3 .capabilities) ≡ 16
+long : (c : tie.Start) → length (c .args .t3 .capabilities) ≡ capabilityRoom
 long c = search (needs, long-unmapped)
 
-below : (c : tie.Start) → c .args .i < 16
+below : (c : tie.Start) → c .args .i < capabilityRoom
 below c = omega (arith, long c, kept-below (c .args .t3) (c .args .i) (c .pre))
 
 mul-capability : tie.Need-mul-capability

@@ -1,19 +1,20 @@
--- `put_header` lays the id and the next offset. Assumes nothing.
-use Prim.Native.Nat.{ℕ, _<_}
-use mathlib.Core.Path.{_≡_, sym, _∙_}
+-- `put_header` lays the id and the next offset.
+use Prim.Native.Nat.{_<_}
+use mathlib.Core.Path.{_≡_}
 use native.Mathlib.Omega.{arith}
 use lib.ListN.{length}
-use Rattle.capability.proofs.Spans.{long-unmapped}
+use Rattle.address.specs.Limits.{capabilityRoom}
+use Rattle.word.proofs.Mapped.{long-unmapped}
 use Rattle.config.proofs.Fields.{laid-append, laid-put}
-use Rattle.config.proofs.PowerOns.{kept-below, kept-is}
+use Rattle.config.proofs.Layings.{kept-below, kept-is}
 use borrow.Author.Needs.{needs}
 use Rattle.config.proofs.power_on.put_header.Statement.{statement}
 use Rattle.config.proofs.power_on.put_header.Tie as tie
 
-long : (c : tie.Start) → length (c .args .t2 .capabilities) ≡ 16
+long : (c : tie.Start) → length (c .args .t2 .capabilities) ≡ capabilityRoom
 long c = search (needs, long-unmapped)
 
-below : (c : tie.Start) → c .args .i < 16
+below : (c : tie.Start) → c .args .i < capabilityRoom
 below c = omega (arith, long c, kept-below (c .args .t2) (c .args .i) (c .pre))
 
 mul-capability : tie.Need-mul-capability

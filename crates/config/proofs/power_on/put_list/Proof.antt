@@ -1,5 +1,5 @@
--- `put_list` lays two fields with any capability, none without. Assumes nothing.
-use mathlib.Core.Path.{_≡_, sym, _∙_}
+-- `put_list` lays two fields with any capability, none without.
+use mathlib.Core.Path.{sym}
 use borrow.Author.Tests.{eq-eqb, ne-eqb}
 use Rattle.config.proofs.Fields.{laid-none, laid-append, laid-put}
 use borrow.Author.Needs.{needs}

@@ -1,16 +1,17 @@
--- `start_at` reads the capability at an index that is counted and in the list, and answers 0 elsewhere. Assumes nothing.
+-- `start_at` reads the capability at an index that is counted and in the list, and answers 0 elsewhere.
 use mathlib.Core.Path.{_≡_, sym, _∙_}
 use native.Mathlib.Omega.{arith}
 use lib.ListN.{length, length-take}
 use lib.Seq.{getD-take}
 use Rattle.capability.specs.Owner.{noCapability}
-use Rattle.capability.proofs.Spans.{long-unmapped}
-use Rattle.config.proofs.PowerOns.{start-past}
+use Rattle.address.specs.Limits.{capabilityRoom}
+use Rattle.word.proofs.Mapped.{long-unmapped}
+use Rattle.config.proofs.Layings.{start-past}
 use borrow.Author.Needs.{needs}
 use Rattle.config.proofs.power_on.start_at.Statement.{statement}
 use Rattle.config.proofs.power_on.start_at.Tie as tie
 
-long : (c : tie.Start) → length (c .args .t1 .capabilities) ≡ 16
+long : (c : tie.Start) → length (c .args .t1 .capabilities) ≡ capabilityRoom
 long c = search (needs, long-unmapped)
 
 mul-capability : tie.Need-mul-capability
