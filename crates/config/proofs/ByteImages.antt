@@ -10,11 +10,12 @@ use Rattle.address.specs.Layout as layout
 use Rattle.address.specs.Layout.{barCount}
 use Rattle.word.proofs.Tests.{both, never}
 use Rattle.bar.specs.declared.bar_state.BarState.{BarState}
+use Rattle.capability.specs.Owner.{capabilityCount}
 use Rattle.capability.specs.declared.placed.Placed.{Placed}
 use Rattle.config.specs.Admitted.{Admitted}
 use Rattle.config.specs.ConfigByte.{noConfigByte, byteCount, byteOffset, byteOk, Last}
 use Rattle.config.specs.Field.{under}
-use Rattle.config.specs.PowerOn.{commandFields, configField, configFields, byteValues, byteMasks, barFields, capabilityCount, listFields, capabilityFields, capabilityMasks, powerOnOf}
+use Rattle.config.specs.PowerOn.{commandFields, configField, configFields, byteValues, byteMasks, barFields, listFields, capabilityFields, capabilityMasks, powerOnOf}
 use Rattle.config.specs.declared.function.ConfigByte.{ConfigByte}
 use Rattle.config.specs.declared.function.Contents.{Contents}
 use Rattle.config.proofs.Chains.{held-not-ok}

@@ -11,16 +11,15 @@ use Rattle.word.proofs.Tests.{both, never}
 use Rattle.word.proofs.Intervals.{covers-before, covers-within}
 use Rattle.bar.specs.declared.bar_state.BarState.{BarState}
 use Rattle.capability.specs.Size.{headerSize}
-use Rattle.capability.specs.Laid.{startOf}
+use Rattle.capability.specs.Owner.{capabilityCount, startOf, capabilityAt}
 use Rattle.capability.specs.Mode.{inCapability}
-use Rattle.capability.specs.Owner.{capabilityAt}
 use Rattle.capability.specs.declared.placed.Placed.{Placed}
 use Rattle.capability.proofs.Extents.{extent-in, extent-within}
 use Rattle.capability.proofs.Modes.{nobody-outside}
 use Rattle.config.specs.Admitted.{Admitted}
 use Rattle.config.specs.ConfigByte.{byteCount, headerByte, byteOk}
 use Rattle.config.specs.Field.{Field, at, has, byteAt, under}
-use Rattle.config.specs.PowerOn.{commandFields, byteValues, byteMasks, barFields, capabilityCount, listFields, headerFields, bodyField, capabilityFields, capabilityMasks, powerOnOf}
+use Rattle.config.specs.PowerOn.{commandFields, byteValues, byteMasks, barFields, listFields, headerFields, bodyField, capabilityFields, capabilityMasks, powerOnOf}
 use Rattle.config.specs.declared.function.Contents.{Contents}
 use Rattle.config.proofs.CommandMasks.{command-none}
 use Rattle.config.proofs.Fields.{has-end, has-more, one-has, none-append, under-more, under-one, under-append, under-none}

@@ -11,12 +11,13 @@ use Rattle.address.specs.Layout.{standardHeaderEnd, barCount}
 use Rattle.word.proofs.Tests.{both, never}
 use Rattle.word.proofs.Intervals.{covers-within}
 use Rattle.bar.specs.declared.bar_state.BarState.{BarState}
+use Rattle.capability.specs.Owner.{capabilityCount}
 use Rattle.capability.specs.declared.placed.Placed.{Placed}
 use Rattle.capability.proofs.Extents.{extent-within}
 use Rattle.config.specs.Admitted.{Admitted}
 use Rattle.config.specs.ConfigByte.{byteCount, byteOk}
 use Rattle.config.specs.Field.{under}
-use Rattle.config.specs.PowerOn.{identityFields, intxFields, commandFields, configFields, byteValues, byteMasks, barFields, capabilityCount, listFields, capabilityFields, capabilityMasks, powerOnOf}
+use Rattle.config.specs.PowerOn.{identityFields, intxFields, commandFields, configFields, byteValues, byteMasks, barFields, listFields, capabilityFields, capabilityMasks, powerOnOf}
 use Rattle.config.specs.declared.function.ConfigByte.{ConfigByte}
 use Rattle.config.specs.declared.function.Contents.{Contents}
 use Rattle.config.specs.declared.function.Intx.{Intx}

@@ -5,10 +5,11 @@ use mathlib.Core.Path.{_≡_, _∙_}
 use lib.ListN.{length, getD}
 use Rattle.address.specs.Layout.{barCount}
 use Rattle.bar.specs.declared.bar_state.BarState.{BarState}
+use Rattle.capability.specs.Owner.{capabilityCount}
 use Rattle.capability.specs.declared.placed.Placed.{Placed}
 use Rattle.config.specs.ConfigByte.{byteCount}
 use Rattle.config.specs.Field.{Field, under}
-use Rattle.config.specs.PowerOn.{identityFields, intxFields, byteValues, barFields, capabilityCount, listFields, capabilityFields, imageFields, maskFields, powerOnOf}
+use Rattle.config.specs.PowerOn.{identityFields, intxFields, byteValues, barFields, listFields, capabilityFields, imageFields, maskFields, powerOnOf}
 use Rattle.config.specs.declared.function.Contents.{Contents}
 use Rattle.config.proofs.Fields.{under-append, image-at, image-length}
 

@@ -9,25 +9,25 @@ use lib.ListN.{length, getD, length-take, List·getD-eq-default}
 use lib.Seq.{getD-take}
 use Rattle.address.specs.Layout.{configSpaceSize, standardHeaderEnd}
 use Rattle.word.proofs.Tests.{below-or-not}
-use Rattle.capability.specs.Laid.{Laid, startOf, finishOf}
+use Rattle.capability.specs.Laid.{Laid, finishOf}
+use Rattle.capability.specs.Owner.{capabilityCount, startOf, capabilitiesOf, capabilityAt}
 use Rattle.capability.specs.Mode.{inCapability}
-use Rattle.capability.specs.Owner.{capabilitiesOf, capabilityAt, noCapability}
+use Rattle.capability.specs.Blank.{noPlacedCapability}
 use Rattle.capability.specs.declared.placed.Placed.{Placed}
 use Rattle.capability.specs.declared.placed.PlacedCapability.{PlacedCapability}
 use Rattle.capability.proofs.Extents.{extent-within}
-use Rattle.config.specs.PowerOn.{capabilityCount}
 
 module _ (p : Placed) (i : ℕ) where
   -- past the last capability there is no offset
   pub start-past : capabilityCount p ≤ i → startOf p i ≡ 0
-  start-past h = ap (λ (c : PlacedCapability). c .offset .0) (List·getD-eq-default (capabilitiesOf p) noCapability {n = i} h)
+  start-past h = ap (λ (c : PlacedCapability). c .offset .0) (List·getD-eq-default (capabilitiesOf p) noPlacedCapability {n = i} h)
 
   -- a capability that is counted is one of the list
   pub kept-below : i < capabilityCount p → i < length (p .capabilities)
   kept-below h = omega (arith, rw (length-take (p .count) (p .capabilities)) at h)
 
-  pub kept-is : i < capabilityCount p → capabilityAt p i ≡ getD (p .capabilities) i noCapability
-  kept-is h = getD-take (p .count) (p .capabilities) i noCapability (omega (arith, rw (length-take (p .count) (p .capabilities)) at h))
+  pub kept-is : i < capabilityCount p → capabilityAt p i ≡ getD (p .capabilities) i noPlacedCapability
+  kept-is h = getD-take (p .count) (p .capabilities) i noPlacedCapability (omega (arith, rw (length-take (p .count) (p .capabilities)) at h))
 
 module _ (p : Placed) (l : Laid configSpaceSize p) where
   pub starts-from : (i : ℕ) → i < capabilityCount p → standardHeaderEnd ≤ startOf p i

@@ -11,11 +11,11 @@ use lib.ListN.{getD}
 use Rattle.address.specs.Layout as layout
 use Rattle.word.proofs.Tests.{true-or-false}
 use Rattle.bar.specs.declared.bar_state.BarState.{BarState}
-use Rattle.capability.specs.Laid.{startOf}
+use Rattle.capability.specs.Owner.{capabilityCount, startOf}
 use Rattle.capability.specs.declared.placed.Placed.{Placed}
 use Rattle.config.specs.Admitted.{Admitted}
 use Rattle.config.specs.Field.{at, under}
-use Rattle.config.specs.PowerOn.{identityFields, intxFields, pinOf, capabilityCount, listFields, powerOnOf}
+use Rattle.config.specs.PowerOn.{identityFields, intxFields, pinOf, listFields, powerOnOf}
 use Rattle.config.specs.declared.function.Contents.{Contents}
 use Rattle.config.specs.declared.function.Intx.{Intx}
 use Rattle.config.specs.declared.function.Intx.the-variants.{Absent, Pin}

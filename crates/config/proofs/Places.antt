@@ -14,15 +14,14 @@ use Rattle.word.proofs.Tests.{below-or-not, true-or-false, both}
 use Rattle.word.proofs.Intervals.{Within, covers-within}
 use Rattle.bar.specs.declared.bar_state.BarState.{BarState}
 use Rattle.capability.specs.Size.{headerSize}
-use Rattle.capability.specs.Laid.{startOf}
+use Rattle.capability.specs.Owner.{capabilityCount, startOf, capabilityAt}
 use Rattle.capability.specs.Mode.{inCapability}
-use Rattle.capability.specs.Owner.{capabilityAt}
 use Rattle.capability.specs.declared.placed.Placed.{Placed}
 use Rattle.capability.proofs.Extents.{extent-in}
 use Rattle.config.specs.Command.{commandLow, commandHigh}
 use Rattle.config.specs.ConfigByte.{noConfigByte}
 use Rattle.config.specs.Field.{at, has}
-use Rattle.config.specs.PowerOn.{identityFields, intxFields, commandFields, configField, configFields, barField, barFields, capabilityCount, listFields, headerFields, bodyField, capabilityFields, capabilityMasks}
+use Rattle.config.specs.PowerOn.{identityFields, intxFields, commandFields, configField, configFields, barField, barFields, listFields, headerFields, bodyField, capabilityFields, capabilityMasks}
 use Rattle.config.specs.State.{barAt}
 use Rattle.config.specs.declared.function.ConfigByte.{ConfigByte}
 use Rattle.config.specs.declared.function.Identity.{Identity}

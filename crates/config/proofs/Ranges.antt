@@ -11,10 +11,11 @@ use lib.ListN.{getD}
 use Rattle.address.specs.Layout.{barCount}
 use Rattle.word.proofs.Tests.{true-or-false}
 use Rattle.bar.specs.declared.bar_state.BarState.{BarState}
+use Rattle.capability.specs.Owner.{capabilityCount}
 use Rattle.capability.specs.declared.placed.Placed.{Placed}
 use Rattle.config.specs.ConfigByte.{byteCount}
 use Rattle.config.specs.Field.{Field, at, has, byteAt, under, fieldsBelow}
-use Rattle.config.specs.PowerOn.{intxFields, configFields, barField, barFields, capabilityCount, listFields, capabilityFields, capabilityMasks, powerOnOf}
+use Rattle.config.specs.PowerOn.{intxFields, configFields, barField, barFields, listFields, capabilityFields, capabilityMasks, powerOnOf}
 use Rattle.config.specs.State.{barAt}
 use Rattle.config.specs.declared.function.ConfigByte.{ConfigByte}
 use Rattle.config.specs.declared.function.Contents.{Contents}

@@ -76,3 +76,9 @@ module _ (P : WriteDone → Type 0) (f : FunctionState) (o w v : ℕ) (s : Shown
   pub write-by : P (writeOf f o w v)
   unfolding writeOf
   write-by = checked (accessOf (spaceOf f) o w) refl
+
+-- and of the state alone: it is as it was, or a probe starts, or a store is made
+pub state-by : (P : FunctionState → Type 0) (f : FunctionState) (o w v : ℕ) → P f → P (withBar f (slotAt o) (probed (barAt (f .bars) (slotAt o)))) → P (withLive f (storedIn f o w v) (revisionAfter (f .live) (storedIn f o w v) (f .revision))) → P (writeOf f o w v .state)
+state-by P f o w v same probe store =
+    write-by (λ d. P (d .state)) f o w v
+    (record { bad-access = λ e. same; probing = λ a i. probe; candidate = λ a i x e. same; effect = λ a i id region offset e. same; bad-effect = λ a i e. same; exhausts = λ a i e. same; stores = λ a i u e. store })

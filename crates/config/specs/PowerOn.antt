@@ -3,14 +3,13 @@ use Prim.Native.Nat.{ℕ, _+_}
 use mathlib.Core.Bool.{cond}
 use mathlib.Core.List.{List, [], _∷_, _++_}
 use lib.Dec.{eqb}
-use lib.ListN.{length, getD}
+use lib.ListN.{getD}
 use Rattle.address.specs.Layout as layout
 use Rattle.address.specs.Kinds.{slot, registerOf}
 use Rattle.bar.specs.Register.{committed}
 use Rattle.bar.specs.declared.bar_state.BarState.{BarState}
 use Rattle.capability.specs.Size.{headerSize}
-use Rattle.capability.specs.Laid.{startOf}
-use Rattle.capability.specs.Owner.{capabilitiesOf, capabilityAt}
+use Rattle.capability.specs.Owner.{capabilityCount, capabilityAt, startOf}
 use Rattle.capability.specs.declared.placed.Placed.{Placed}
 use Rattle.config.specs.ConfigByte.{noConfigByte, byteCount}
 use Rattle.config.specs.Field.{Field, at, part, imageOf, fieldsBelow}
@@ -70,10 +69,6 @@ barField b n = cond (eqb (b .plan .size) 0) [] (at (registerOf (slot n)) layout.
 
 abbrev pub barFields : List BarState → ℕ → List Field
 barFields bars n = fieldsBelow (λ i. barField (barAt bars i) i) n
-
--- how many capabilities there are: as many as are counted and kept
-abbrev pub capabilityCount : Placed → ℕ
-capabilityCount p = length (capabilitiesOf p)
 
 -- "With any capability, status gets 0x10 and 0x34 the first offset."
 abbrev pub listFields : Placed → List Field

@@ -3,10 +3,10 @@ ghost use mathlib.Core.Path.{_≡_};
 ghost use mathlib.Core.List.{[], _∷_};
 ghost use Prim.Native.Nat.{_<_};
 ghost use Rattle.address.specs.Layout.{configSpaceSize, barCount};
-ghost use Rattle.capability.specs.Laid.{startOf};
+ghost use Rattle.capability.specs.Owner.{capabilityCount};
 ghost use Rattle.config.specs.ConfigByte.{byteCount};
 ghost use Rattle.config.specs.Field.{laid};
-ghost use Rattle.config.specs.PowerOn.{identityFields, intxFields, commandFields, byteValues, byteMasks, barField, barFields, capabilityCount, listFields, headerFields, bodyField, capabilityFields, capabilityMasks, powerOnOf};
+ghost use Rattle.config.specs.PowerOn.{identityFields, intxFields, commandFields, byteValues, byteMasks, barField, barFields, listFields, headerFields, bodyField, capabilityFields, capabilityMasks, powerOnOf};
 use crate::command::COMMAND_HIGH;
 use crate::command::COMMAND_LOW;
 use crate::config_byte::byte_count;
@@ -19,10 +19,11 @@ use crate::image::put_word;
 use address::config_layout;
 use address::config_layout::CONFIG_SPACE_BYTES;
 use address::limits::BAR_SLOTS;
-use address::limits::CAPABILITY_LIMIT;
 use bar::BarState;
 use capability::CAPABILITY_HEADER_SIZE;
 use capability::Placed;
+use capability::capability_count;
+use capability::capability_start;
 
 #[repr(C)]
 pub struct PowerOn {
@@ -138,27 +139,6 @@ fn put_bars(image: &mut [u8], bars: [BarState; BAR_SLOTS])
     }
 }
 
-// How many capabilities there are.
-fn capability_count(placed: Placed) -> usize
-    ensures { λ r. ⌜ r ≡ capabilityCount placed ⌝ }
-{
-    word::at_most(placed.count, CAPABILITY_LIMIT)
-}
-
-// Where the capability at an index starts, 0 past the last.
-fn start_at(placed: Placed, i: usize) -> u16
-    ensures { λ r. ⌜ r ≡ startOf placed i ⌝ }
-{
-    if i < placed.count {
-        if i < CAPABILITY_LIMIT {
-            let capability = placed.capabilities[i];
-            let offset = capability.offset;
-            return offset.value();
-        }
-    }
-    0
-}
-
 // The status bit and the pointer of the list.
 fn put_list(image: &mut [u8], placed: Placed)
     ensures { λ _. ⌜ now (image .exit) ≡ laid (now (image .entry)) (listFields placed) ⌝ }
@@ -175,7 +155,7 @@ fn put_list(image: &mut [u8], placed: Placed)
         image,
         config_layout::CONFIG_CAPABILITY_POINTER_OFFSET,
         1,
-        start_at(placed, 0) as u64,
+        capability_start(placed, 0) as u64,
     );
 }
 
@@ -185,9 +165,9 @@ fn put_header(image: &mut [u8], placed: Placed, i: usize)
     ensures { λ _. ⌜ now (image .exit) ≡ laid (now (image .entry)) (headerFields placed i) ⌝ }
 {
     let capability = placed.capabilities[i];
-    let start = start_at(placed, i) as usize;
+    let start = capability_start(placed, i) as usize;
     put_byte(image, start, capability.id);
-    word::put(image, start + 1, 1, start_at(placed, i + 1) as u64);
+    word::put(image, start + 1, 1, capability_start(placed, i + 1) as u64);
 }
 
 // The body of a capability, or its masks.
@@ -197,7 +177,7 @@ fn put_body(image: &mut [u8], bytes: &[u8], placed: Placed, i: usize)
 {
     let capability = placed.capabilities[i];
     let length = capability.length as usize;
-    let start = start_at(placed, i) as usize;
+    let start = capability_start(placed, i) as usize;
     copy(
         image,
         start + CAPABILITY_HEADER_SIZE,

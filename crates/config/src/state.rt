@@ -24,8 +24,8 @@ pub struct FunctionState {
 }
 
 // How many bytes of config space a function has.
-pub fn space_of(_state: FunctionState) -> u16
-    ensures { λ r. ⌜ r ≡ spaceOf «_state» ⌝ }
+pub fn space_of(state: FunctionState) -> u16
+    ensures { λ r. ⌜ r ≡ spaceOf state ⌝ }
 {
     config_layout::CONFIG_SPACE_SIZE
 }

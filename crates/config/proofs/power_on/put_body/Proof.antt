@@ -25,8 +25,8 @@ element-copy-out-capability c = below (c .before .before)
 cast-length : tie.Need-cast-length
 cast-length c = search needs
 
-start-at-requires : tie.Need-start-at-requires
-start-at-requires c κs = search needs
+capability-start-requires : tie.Need-capability-start-requires
+capability-start-requires c κs = search needs
 
 cast-start : tie.Need-cast-start
 cast-start c = search needs
@@ -44,7 +44,7 @@ returns : tie.Need-returns
 returns c = let p = c .before .before in
     let s = p .before .before in
     let a = s .before .before .before .before .before in
-    rw (p .copy .ensures, s .start-at .ensures, kept-is (a .args .t3) (a .args .i) (a .pre))
+    rw (p .copy .ensures, s .capability-start .ensures, kept-is (a .args .t3) (a .args .i) (a .pre))
 
 pub put-body-spec : {M : Type 1} → statement M
 put-body-spec =
@@ -53,7 +53,7 @@ put-body-spec =
     mul-capability
     element-copy-out-capability
     cast-length
-    start-at-requires
+    capability-start-requires
     cast-start
     add-copy
     copy-requires

@@ -5,8 +5,9 @@ use mathlib.Core.Path.{_≡_, refl, ap, _∙_}
 use native.Mathlib.Omega.{arith}
 use borrow.Author.Needs.{needs}
 use lib.ListN.{length}
+use Rattle.capability.specs.Owner.{capabilityCount}
 use Rattle.config.specs.Field.{laid}
-use Rattle.config.specs.PowerOn.{capabilityCount, headerFields, bodyField, capabilityFields, capabilityMasks}
+use Rattle.config.specs.PowerOn.{headerFields, bodyField, capabilityFields, capabilityMasks}
 use Rattle.config.proofs.Fields.{laid-append, laid-length}
 use Rattle.config.proofs.Stages.{laid-first, laid-next}
 use Rattle.config.proofs.power_on.put_capabilities.Statement.{statement}
