@@ -29,6 +29,13 @@ impl ConfigOffset {
         ConfigOffset(0)
     }
 
+    // Every byte is an offset of a config space of 256.
+    pub fn of_byte(value: u8) -> ConfigOffset
+        ensures { λ r. ⌜ r ≡ offset value ⌝ }
+    {
+        ConfigOffset(value as u16)
+    }
+
     pub fn value(self) -> u16
         ensures { λ r. ⌜ r ≡ self .0 ⌝ }
     {

@@ -1,25 +1,17 @@
--- Refusal 11 is given exactly for one of the five reasons of its row. Assumes nothing.
-use Prim.Native.Nat.{ℕ, _+_, _<_, _≤_}
-use mathlib.Core.Bool.{Bool, true, false, _||_, or-true}
+-- Refusal 11 is given exactly for one of the five reasons of its row.
+use Prim.Native.Nat.{ℕ, _+_, _≤_}
+use mathlib.Core.Bool.{true, false, _||_, or-true}
 use mathlib.Core.List.{List}
 use mathlib.Core.Logic.{⊎-elim}
-use mathlib.Core.Path.{_≡_, refl, sym, _∙_}
+use mathlib.Core.Path.{_≡_}
 use borrow.Author.Tests.{lt-ltb, le-ltb, ltb-true, eq-eqb, ne-eqb, eqb-true}
-use native.Mathlib.Omega.{arith}
 use Rattle.word.proofs.Tests.{or-cases}
 use Rattle.capability.specs.Size.{headerSize}
-use Rattle.capability.specs.Effect.{isEmpty, startsEarly, endsLate, overlapsEarlier, coversWritable}
-use Rattle.capability.specs.Declaration.{effectCountOf, lengthAt, latest, effectBad}
+use Rattle.capability.specs.Declaration.{effectCountOf, lengthAt, latest}
+use Rattle.capability.specs.BadEffect.{isEmpty, startsEarly, endsLate, overlapsEarlier, coversWritable, effectBad}
+use Rattle.capability.specs.Fault.{Fault, empty, early, late, overlapping, writable}
 use Rattle.capability.specs.declared.declared.Capabilities.{Capabilities}
-use Rattle.capability.proofs.Effects.{Earlier, earlier-has, earlier-found, Writable, writable-has, writable-found}
-
--- what can be wrong with an effect of w bytes from o on of the latest capability
-pub data Fault (mask : List ℕ) (d : Capabilities) (o w : ℕ) : Type 0 where
-  empty : w ≡ 0 → Fault mask d o w
-  early : o < headerSize → Fault mask d o w
-  late : headerSize + lengthAt d (latest d) < o + w → Fault mask d o w
-  overlapping : Earlier (d .effects) (effectCountOf d) (latest d) o w → Fault mask d o w
-  writable : Writable mask o w → Fault mask d o w
+use Rattle.capability.proofs.BadEffects.{earlier-has, earlier-found, writable-has, writable-found}
 
 module _ (mask : List ℕ) (d : Capabilities) (o w : ℕ) where
   pub bad-fault : effectBad mask d o w ≡ true → Fault mask d o w

@@ -1,19 +1,19 @@
--- Which capability holds a byte, and the mode of each. Assumes nothing.
+-- Which capability holds a byte, and the mode of each.
 use Prim.Native.Nat.{ℕ, _<_}
 use mathlib.Core.Bool.{true, false}
 use mathlib.Core.List.{List}
 use mathlib.Core.Path.{_≡_}
 use native.Mathlib.Omega.{arith}
-use lib.ListN.{length, getD}
-use Rattle.word.specs.Number.{covers}
-use Rattle.word.specs.Table.{anyBelow}
+use lib.ListN.{getD}
+use Rattle.word.specs.Interval.{covers}
+use Rattle.word.specs.Search.{anyBelow}
+use Rattle.word.proofs.Searches.{First, any-never, first-is, first-none, found-first, none-never}
 use Rattle.capability.specs.Size.{headerSize}
-use Rattle.capability.specs.Owner.{capabilitiesOf, capabilityAt, ownerOf}
+use Rattle.capability.specs.Owner.{capabilityCount, startOf, ownerOf}
 use Rattle.capability.specs.Mode.{inCapability, holderOf, bodyMode, byteModeOf}
 use Rattle.capability.specs.declared.placed.Placed.{Placed}
 use Rattle.capability.specs.declared.byte_mode.Holder.the-variants as holder
 use Rattle.capability.specs.declared.byte_mode.ByteMode.the-variants as mode
-use Rattle.capability.proofs.Firsts.{First, any-never, first-is, first-none, found-first, none-never}
 
 same-index : (a b : ℕ) → holder.Capability a ≡ holder.Capability b → a ≡ b
 same-index a b e = cc
@@ -23,7 +23,7 @@ not-nobody a e = let z : _≡_ {A = ℕ} 0 1 = cc in omega arith
 
 module _ (p : Placed) (j : ℕ) where
   abbrev many : ℕ
-  many = length (capabilitiesOf p)
+  many = capabilityCount p
 
   -- what the search finds
   pub holder-is : (i : ℕ) → i < many → anyBelow (inCapability p j) i ≡ false → inCapability p j i ≡ true → holderOf p j ≡ holder.Capability i
@@ -51,10 +51,10 @@ module _ (p : Placed) (j : ℕ) where
     mode-outside e = rw e
 
     module _ (i : ℕ) (e : holderOf p j ≡ holder.Capability i) where
-      pub mode-header : covers (capabilityAt p i .offset .0) headerSize j ≡ true → byteModeOf p mask j ≡ mode.Constant
+      pub mode-header : covers (startOf p i) headerSize j ≡ true → byteModeOf p mask j ≡ mode.Constant
       unfolding byteModeOf
       mode-header t = rw (e, t)
 
-      pub mode-body : covers (capabilityAt p i .offset .0) headerSize j ≡ false → byteModeOf p mask j ≡ bodyMode (ownerOf p j) (getD mask j 0)
+      pub mode-body : covers (startOf p i) headerSize j ≡ false → byteModeOf p mask j ≡ bodyMode (ownerOf p j) (getD mask j 0)
       unfolding byteModeOf
       mode-body t = rw (e, t)

@@ -1,15 +1,15 @@
--- Who owns a byte, and which effect an access touches first. Assumes nothing.
+-- Who owns a byte, and which effect an access touches first.
 use Prim.Native.Nat.{ℕ, _+_, _<_}
 use mathlib.Core.Bool.{Bool, true, false}
 use mathlib.Core.Path.{_≡_}
 use native.Mathlib.Omega.{arith}
-use lib.ListN.{length}
-use Rattle.word.specs.Table.{anyBelow}
-use Rattle.capability.specs.First.{firstOf}
-use Rattle.capability.specs.Owner.{effectsOf, inRegion, ownerOf, touches, firstTouched}
+use Rattle.word.specs.Search.{anyBelow, firstOf}
+use Rattle.word.proofs.Tests.{same-test}
+use Rattle.word.proofs.Searches.{First, any-never, first-is, first-none, first-same, found-first, none-never}
+use Rattle.capability.specs.Owner.{effectCount, inRegion, ownerOf, touches, firstTouched}
 use Rattle.capability.specs.declared.placed.Placed.{Placed}
 use Rattle.capability.specs.declared.owner.Owner.the-variants as owner
-use Rattle.capability.proofs.Firsts.{First, any-never, first-is, first-none, first-same, found-first, none-never}
+use Rattle.capability.proofs.Regions.{touched-at, at-touched}
 
 same-index : (a b : ℕ) → owner.Effect a ≡ owner.Effect b → a ≡ b
 same-index a b e = cc
@@ -26,7 +26,7 @@ effect-never = none-never owner.Effect owner.Nobody same-index not-nobody
 
 module _ (p : Placed) where
   abbrev many : ℕ
-  many = length (effectsOf p)
+  many = effectCount p
 
   module _ (o w : ℕ) where
     pub touched-first : (i : ℕ) → i < many → anyBelow (touches p o w) i ≡ false → touches p o w i ≡ true → firstTouched p o w ≡ owner.Effect i
@@ -57,6 +57,13 @@ module _ (p : Placed) where
   owner-never j e = effect-never (inRegion p j) many e
 
   -- an access of one byte touches its owner first
+  one-byte : (j k : ℕ) → touches p j 1 k ≡ inRegion p j k
+  one-byte j k =
+      let e : j + 0 ≡ j = omega arith in
+      same-test (touches p j 1 k) (inRegion p j k)
+      (λ t. let r = touched-at p j 1 k t in let q : j + r .0 ≡ j = omega (arith, r .1) in rw q at (r .2))
+      (λ t. at-touched p j 1 k 0 (omega arith) (rw e t))
+
   pub touched-byte : (j : ℕ) → firstTouched p j 1 ≡ ownerOf p j
-  unfolding firstTouched ownerOf touches anyBelow
-  touched-byte j = first-same owner.Effect owner.Nobody (λ k. inRegion p (j + 0) k) (inRegion p j) many (λ k. let e : j + 0 ≡ j = omega arith in rw e)
+  unfolding firstTouched ownerOf
+  touched-byte j = first-same owner.Effect owner.Nobody (touches p j 1) (inRegion p j) many (λ k h. one-byte j k)

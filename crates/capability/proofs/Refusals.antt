@@ -1,35 +1,32 @@
--- Refusal 19 in the words of the table, where no two regions share a byte. Assumes nothing.
+-- Refusal 19 in the words of the table, where no two regions share a byte.
 use Prim.Native.Nat.{ℕ, _+_, _<_, _≤_}
-use mathlib.Core.Bool.{Bool, true, false, _&&_}
-use mathlib.Core.Logic.{_⊎_, ⊎-elim}
+use mathlib.Core.Bool.{Bool, true, false}
+use mathlib.Core.Logic.{⊎-elim}
 use mathlib.Core.Path.{_≡_, sym, _∙_}
 use native.Mathlib.Omega.{arith}
-use lib.ListN.{length}
-use Rattle.word.proofs.Tests.{and-left, and-right}
+use Rattle.word.proofs.Tests.{and-left, and-right, both, never}
+use Rattle.word.proofs.Searches.{first-or-none}
+use Rattle.refusal.specs.Number.{accepted, badTouch}
 use Rattle.capability.specs.Size.{headerSize}
-use Rattle.capability.specs.Owner.{effectsOf, capabilityAt, effectAt, regionStart, inRegion, ownerOf, touches, holds}
-use Rattle.capability.specs.Touch.{allows, effectAnswer, touchOf, decision, refusalOf}
-use Rattle.capability.specs.Placing.{Placing}
+use Rattle.capability.specs.Owner.{effectCount, capabilityAt, effectAt, startOf, regionStart, inRegion, ownerOf, touches, holds}
+use Rattle.capability.specs.Touch.{allows, effectAnswer, touchOf, answers, decision}
+use Rattle.capability.specs.LaidApart.{LaidApart}
+use Rattle.capability.specs.Number.{touchNumber}
 use Rattle.capability.specs.declared.placed.Placed.{Placed}
 use Rattle.capability.specs.declared.owner.Owner.the-variants as owner
 use Rattle.capability.specs.declared.effect_access.Touch.the-variants as touch
-use Rattle.capability.proofs.Firsts.{true-false, not-true, first-or-none}
+use Rattle.capability.proofs.Regions.{touched-at, at-touched, held-at, holds-inside}
 use Rattle.capability.proofs.Owners.{owner-is}
-use Rattle.capability.proofs.Regions.{holds-inside}
-use Rattle.capability.proofs.Touches.{touched-at, at-touched, held-at, touch-untouched, touch-decision, decision-inside}
+use Rattle.capability.proofs.Touches.{touch-untouched, touch-decision, decision-inside}
 
--- whether the effect at i may answer an access: the access is inside it and its direction is allowed
-abbrev pub answers : Placed → ℕ → ℕ → Bool → ℕ → Bool
-answers p o w write i = holds p o w i && allows write (effectAt p i .access)
-
-module _ (p : Placed) (g : Placing p) where
+module _ (p : Placed) (g : LaidApart p) where
   abbrev many : ℕ
-  many = length (effectsOf p)
+  many = effectCount p
 
   -- the owner of a byte is the effect that covers it
   pub owner-covers : (i j : ℕ) → i < many → inRegion p j i ≡ true → ownerOf p j ≡ owner.Effect i
   owner-covers i j h e =
-      owner-is p j i (record { below = h; before = λ k l. not-true (inRegion p j k) (λ t. let q : k ≡ i = g .apart k i j (omega arith) h t e in omega arith); here = e })
+      owner-is p j i (record { below = h; before = λ k l. never (inRegion p j k) (λ t. let q : k ≡ i = g .apart k i j (omega arith) h t e in omega arith); here = e })
 
   module _ (o w : ℕ) where
     -- an access inside one effect touches no other: the Rust's "covers multiple capability effects" cannot be reached
@@ -39,10 +36,10 @@ module _ (p : Placed) (g : Placing p) where
         g .apart k i (o + r .0) l h (r .2) (held-at p o w i e (r .0) (r .1))
 
     -- and lies in its capability: the Rust's "crosses a capability boundary" cannot be reached
-    pub inside-capability : (i : ℕ) → i < many → 0 < w → holds p o w i ≡ true → (capabilityAt p (effectAt p i .capability) .offset .0 ≤ o) × (o + w ≤ capabilityAt p (effectAt p i .capability) .offset .0 + (headerSize + capabilityAt p (effectAt p i .capability) .length))
+    pub inside-capability : (i : ℕ) → i < many → 0 < w → holds p o w i ≡ true → (startOf p (effectAt p i .capability) ≤ o) × (o + w ≤ startOf p (effectAt p i .capability) + (headerSize + capabilityAt p (effectAt p i .capability) .length))
     unfolding regionStart
     inside-capability i h z e =
-        let s = holds-inside p i o w z e in
+        let s = holds-inside p o w i z e in
         (omega (arith, s .from-start), omega (arith, s .to-end, g .ends i h))
 
     -- answered where the access is inside an effect that allows its direction
@@ -50,7 +47,7 @@ module _ (p : Placed) (g : Placing p) where
     answered write i h z e =
         let held = and-left (holds p o w i) (allows write (effectAt p i .access)) e in
         let here = at-touched p o w i 0 z (held-at p o w i held 0 z) in
-        touch-decision p o w i (record { below = h; before = λ k l. not-true (touches p o w k) (λ t. let q : k ≡ i = one-effect i k h (omega arith) held t in omega arith); here = here }) write ∙
+        touch-decision p o w i (record { below = h; before = λ k l. never (touches p o w k) (λ t. let q : k ≡ i = one-effect i k h (omega arith) held t in omega arith); here = here }) write ∙
         decision-inside p o w write i held (and-right (holds p o w i) (allows write (effectAt p i .access)) e)
 
     -- refused where it touches one that may not answer it
@@ -59,14 +56,14 @@ module _ (p : Placed) (g : Placing p) where
     refused write i h t e =
         ⊎-elim
         (λ r. touch-decision p o w (r .0) (r .1) write ∙
-        (let no : answers p o w write (r .0) ≡ false = not-true (answers p o w write (r .0)) (λ a.
+        (let no : answers p o w write (r .0) ≡ false = never (answers p o w write (r .0)) (λ a.
         let q : i ≡ r .0 = one-effect (r .0) i (r .1 .below) h (and-left (holds p o w (r .0)) (allows write (effectAt p (r .0) .access)) a) t in
-        true-false (answers p o w write (r .0)) a (rw q at e)) in rw no))
-        (λ n. absurd (true-false (touches p o w i) t (n i h)))
+        both a (rw q at e)) in rw no))
+        (λ n. absurd (both t (n i h)))
         (first-or-none (touches p o w) many)
 
 -- refusal 19 only where an effect is touched that may not answer
-pub refused-only : (p : Placed) (o w : ℕ) (write : Bool) → refusalOf (touchOf p o w write) ≡ 19 → (i : ℕ) × (i < length (effectsOf p)) × (touches p o w i ≡ true) × (answers p o w write i ≡ false)
+pub refused-only : (p : Placed) (o w : ℕ) (write : Bool) → touchNumber (touchOf p o w write) ≡ badTouch → (i : ℕ) × (i < effectCount p) × (touches p o w i ≡ true) × (answers p o w write i ≡ false)
 unfolding decision
 refused-only p o w write e =
     ⊎-elim
@@ -74,9 +71,9 @@ refused-only p o w write e =
       r .0,
       r .1 .below,
       r .1 .here,
-      not-true (answers p o w write (r .0)) (λ a.
-          let f : refusalOf (touchOf p o w write) ≡ 0 = rw (touch-decision p o w (r .0) (r .1) write, a) in
-          let z : _≡_ {A = ℕ} 0 19 = sym f ∙ e in omega arith),
+      never (answers p o w write (r .0)) (λ a.
+          let f : touchNumber (touchOf p o w write) ≡ accepted = rw (touch-decision p o w (r .0) (r .1) write, a) in
+          let z : _≡_ {A = ℕ} accepted badTouch = sym f ∙ e in omega arith),
     ))
-    (λ n. let f : refusalOf (touchOf p o w write) ≡ 0 = rw (touch-untouched p o w write n) in let z : _≡_ {A = ℕ} 0 19 = sym f ∙ e in absurd (omega arith))
-    (first-or-none (touches p o w) (length (effectsOf p)))
+    (λ n. let f : touchNumber (touchOf p o w write) ≡ accepted = rw (touch-untouched p o w write n) in let z : _≡_ {A = ℕ} accepted badTouch = sym f ∙ e in absurd (omega arith))
+    (first-or-none (touches p o w) (effectCount p))

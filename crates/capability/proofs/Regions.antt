@@ -1,32 +1,16 @@
--- Bytes of an access and a region as intervals. Assumes nothing.
+-- Bytes of an access and a region as intervals.
 use Prim.Native.Nat.{ℕ, _+_, _-_, _<_, _≤_}
 use mathlib.Core.Bool.{true, false}
 use mathlib.Core.Path.{_≡_, ap}
 use native.Mathlib.Omega.{arith}
-use Rattle.word.specs.Number.{covers}
-use Rattle.word.proofs.Tests.{covers-in, and-left, and-right, same-test}
-use Rattle.word.proofs.Tables.{any-found, any-has}
-use borrow.Author.Tests.{leb-true, ltb-true, lt-ltb, le-leb}
-use lib.Dec.{leb, ltb}
+use borrow.Author.Tests.{leb-true, le-leb}
+use lib.Dec.{leb}
+use Rattle.word.proofs.Tests.{both, never, same-test}
+use Rattle.word.proofs.Searches.{all-each, each-all}
+use Rattle.word.proofs.Intervals.{covers-in, covers-within, Within, Meeting, overlap-meeting, meeting-overlap, overlap-common, common-overlap}
 use Rattle.capability.specs.Owner.{effectAt, regionStart, inRegion, touches, holds}
 use Rattle.capability.specs.declared.placed.Placed.{Placed}
 use Rattle.capability.specs.declared.placed.PlacedEffect.{PlacedEffect}
-use Rattle.capability.proofs.Firsts.{not-true, all-each, each-all}
-
--- what covering says
-pub record Within (start length j : ℕ) : Type 0 where
-  pub from : start ≤ j
-  pub to : j < start + length
-
-pub covers-within : (s l j : ℕ) → covers s l j ≡ true → Within s l j
-unfolding covers
-covers-within s l j e =
-    record { from = leb-true s j (and-left (leb s j) (ltb j (s + l)) e); to = ltb-true j (s + l) (and-right (leb s j) (ltb j (s + l)) e) }
-
--- the code's test of it, which wraps nowhere
-pub covers-test : (s l j : ℕ) → s ≤ j → ltb (j - s) l ≡ covers s l j
-covers-test s l j h =
-    same-test (ltb (j - s) l) (covers s l j) (λ t. let k = ltb-true (j - s) l t in covers-in s l j h (omega arith)) (λ t. lt-ltb (j - s) l (omega (arith, covers-within s l j t)))
 
 module _ (p : Placed) (i : ℕ) where
   -- where the region of the effect at i starts, and its length
@@ -44,42 +28,56 @@ module _ (p : Placed) (i : ℕ) where
   unfolding inRegion
   within-region j a b = covers-in startAt lengthAt j a b
 
-  -- an access touches a region where the two intervals, neither of them empty, meet
-  pub touches-is : (o w : ℕ) → 0 < lengthAt → 0 < w → o < startAt + lengthAt → startAt < o + w → touches p o w i ≡ true
+-- an access touches a region where some byte of it lies in the region
+module _ (p : Placed) (o w i : ℕ) where
+  pub touched-at : touches p o w i ≡ true → (k : ℕ) × (k < w) × (inRegion p (o + k) i ≡ true)
+  unfolding touches inRegion
+  touched-at e =
+      let r = overlap-common o w (startAt p i) (lengthAt p i) e in
+      let a = covers-within o w (r .0) (r .1) in
+      let q : o + (r .0 - o) ≡ r .0 = omega (arith, a .from) in
+      (r .0 - o, omega (arith, a .from, a .to), rw q (r .2))
+
+  pub at-touched : (k : ℕ) → k < w → inRegion p (o + k) i ≡ true → touches p o w i ≡ true
+  unfolding touches inRegion
+  at-touched k h e = common-overlap o w (startAt p i) (lengthAt p i) (o + k) (covers-in o w (o + k) (omega arith) (omega arith)) e
+
+  pub untouched-at : touches p o w i ≡ false → (k : ℕ) → k < w → inRegion p (o + k) i ≡ false
+  untouched-at e k h = never (inRegion p (o + k) i) (λ t. both (at-touched k h t) e)
+
+  -- that is, where the two overlap
+  pub touches-meeting : touches p o w i ≡ true → Meeting o w (startAt p i) (lengthAt p i)
   unfolding touches
-  touches-is o w a b c d =
-      any-found (λ k. inRegion p (o + k) i) (startAt - o) w (omega arith) (within-region (o + (startAt - o)) (omega arith) (omega arith))
+  touches-meeting e = overlap-meeting o w (startAt p i) (lengthAt p i) e
 
-  pub record Meeting (o w : ℕ) : Type 0 where
-    pub length-pos : 0 < lengthAt
-    pub width-pos : 0 < w
-    pub before-end : o < startAt + lengthAt
-    pub past-start : startAt < o + w
-
-  pub touches-meeting : (o w : ℕ) → touches p o w i ≡ true → Meeting o w
+  pub meeting-touches : Meeting o w (startAt p i) (lengthAt p i) → touches p o w i ≡ true
   unfolding touches
-  touches-meeting o w e =
-      let r = any-has (λ k. inRegion p (o + k) i) w e in
-      let q = region-within (o + r .0) (r .2) in
-      record { length-pos = omega (arith, q, r .1); width-pos = omega (arith, q, r .1); before-end = omega (arith, q, r .1); past-start = omega (arith, q, r .1) }
+  meeting-touches m = meeting-overlap o w (startAt p i) (lengthAt p i) m
 
-  -- it is held where it lies in the region
-  pub holds-is : (o w : ℕ) → startAt ≤ o → o + w ≤ startAt + lengthAt → holds p o w i ≡ true
+  -- it is held where every byte lies in the region
+  pub held-at : holds p o w i ≡ true → (k : ℕ) → k < w → inRegion p (o + k) i ≡ true
   unfolding holds
-  holds-is o w a b = each-all (λ k. inRegion p (o + k) i) w (λ k h. within-region (o + k) (omega arith) (omega arith))
+  held-at e k h = all-each (λ k. inRegion p (o + k) i) w e k h
 
-  pub record Inside (o w : ℕ) : Type 0 where
-    pub from-start : startAt ≤ o
-    pub to-end : o + w ≤ startAt + lengthAt
-
-  pub holds-inside : (o w : ℕ) → 0 < w → holds p o w i ≡ true → Inside o w
+  pub at-held : ((k : ℕ) → k < w → inRegion p (o + k) i ≡ true) → holds p o w i ≡ true
   unfolding holds
-  holds-inside o w h e =
-      let a = region-within (o + 0) (all-each (λ k. inRegion p (o + k) i) w e 0 h) in
-      let b = region-within (o + (w - 1)) (all-each (λ k. inRegion p (o + k) i) w e (w - 1) (omega arith)) in
+  at-held h = each-all (λ k. inRegion p (o + k) i) w h
+
+  -- that is, where it lies between the region's ends
+  pub holds-is : startAt p i ≤ o → o + w ≤ startAt p i + lengthAt p i → holds p o w i ≡ true
+  holds-is a b = at-held (λ k h. within-region p i (o + k) (omega arith) (omega arith))
+
+  pub record Inside : Type 0 where
+    pub from-start : startAt p i ≤ o
+    pub to-end : o + w ≤ startAt p i + lengthAt p i
+
+  pub holds-inside : 0 < w → holds p o w i ≡ true → Inside
+  holds-inside h e =
+      let a = region-within p i (o + 0) (held-at e 0 h) in
+      let b = region-within p i (o + (w - 1)) (held-at e (w - 1) (omega arith)) in
       record { from-start = omega (arith, a, b); to-end = omega (arith, a, b) }
 
--- the tests of the code, on the effect e that was read at i and the start s of its region
+-- the tests of `effect_holds`, on the effect e that was read at i and the start s of its region
 module _ (p : Placed) (i o w : ℕ) (e : PlacedEffect) (s : ℕ) (is-effect : e ≡ effectAt p i) (is-start : s ≡ regionStart p e) where
   start-is : s ≡ startAt p i
   start-is = rw is-effect at is-start
@@ -87,37 +85,18 @@ module _ (p : Placed) (i o w : ℕ) (e : PlacedEffect) (s : ℕ) (is-effect : e 
   length-is : e .length ≡ lengthAt p i
   length-is = ap (λ (x : PlacedEffect). x .length) is-effect
 
-  pub touched-empty : e .length ≡ 0 → touches p o w i ≡ false
-  touched-empty h = not-true (touches p o w i) (λ t. omega (arith, touches-meeting p i o w t, length-is))
-
-  pub touched-none : w ≡ 0 → touches p o w i ≡ false
-  touched-none h = not-true (touches p o w i) (λ t. omega (arith, touches-meeting p i o w t))
-
-  pub touched-before : o < s → 0 < e .length → ltb (s - o) w ≡ touches p o w i
-  touched-before h l =
-      same-test (ltb (s - o) w) (touches p o w i)
-      (λ t. let k = ltb-true (s - o) w t in touches-is p i o w (omega (arith, length-is)) (omega arith) (omega (arith, start-is)) (omega (arith, start-is)))
-      (λ t. lt-ltb (s - o) w (omega (arith, touches-meeting p i o w t, start-is)))
-
-  pub touched-after : s ≤ o → 0 < w → ltb (o - s) (e .length) ≡ touches p o w i
-  touched-after h l =
-      same-test (ltb (o - s) (e .length)) (touches p o w i)
-      (λ t. let k = ltb-true (o - s) (e .length) t in touches-is p i o w (omega (arith, length-is)) (omega arith) (omega (arith, start-is, length-is)) (omega (arith, start-is)))
-      (λ t. lt-ltb (o - s) (e .length) (omega (arith, touches-meeting p i o w t, start-is, length-is)))
-
   pub held-before : 0 < w → o < s → holds p o w i ≡ false
-  held-before z h = not-true (holds p o w i) (λ t. omega (arith, holds-inside p i o w z t, start-is))
+  held-before z h = never (holds p o w i) (λ t. omega (arith, holds-inside p o w i z t, start-is))
 
   pub held-past : 0 < w → s ≤ o → e .length < o - s → holds p o w i ≡ false
-  held-past z h l = not-true (holds p o w i) (λ t. omega (arith, holds-inside p i o w z t, start-is, length-is))
+  held-past z h l = never (holds p o w i) (λ t. omega (arith, holds-inside p o w i z t, start-is, length-is))
 
   pub held-test : 0 < w → s ≤ o → o - s ≤ e .length → leb w (e .length - (o - s)) ≡ holds p o w i
   held-test z h l =
       same-test (leb w (e .length - (o - s))) (holds p o w i)
-      (λ t. let k = leb-true w (e .length - (o - s)) t in holds-is p i o w (omega (arith, start-is)) (omega (arith, start-is, length-is)))
-      (λ t. le-leb w (e .length - (o - s)) (omega (arith, holds-inside p i o w z t, start-is, length-is)))
+      (λ t. let k = leb-true w (e .length - (o - s)) t in holds-is p o w i (omega (arith, start-is)) (omega (arith, start-is, length-is)))
+      (λ t. le-leb w (e .length - (o - s)) (omega (arith, holds-inside p o w i z t, start-is, length-is)))
 
 -- an access of no bytes is held by every region
 pub held-none : (p : Placed) (i o w : ℕ) → w ≡ 0 → holds p o w i ≡ true
-unfolding holds
-held-none p i o w z = each-all (λ k. inRegion p (o + k) i) w (λ k h. absurd (omega arith))
+held-none p i o w z = at-held p o w i (λ k h. absurd (omega arith))

@@ -1,34 +1,26 @@
--- Refusal 12 at a capability: one of its effects has the id of an effect declared before it. Assumes nothing.
-use Prim.Native.Nat.{ℕ, _<_}
-use mathlib.Core.Bool.{true, _&&_}
+-- Refusal 12 at a capability: one of its effects has the id of an effect declared before it.
+use Prim.Native.Nat.{ℕ}
+use mathlib.Core.Bool.{true}
 use mathlib.Core.Path.{_≡_}
 use borrow.Author.Tests.{eq-eqb, eqb-true}
 use lib.Dec.{eqb}
 use Rattle.word.proofs.Tests.{and-left, and-right}
-use Rattle.word.proofs.Tables.{any-found, any-has}
-use Rattle.capability.specs.Declaration.{effectCountOf, effectAt}
-use Rattle.capability.specs.Layout.{idAmong, repeats, repeatsAt}
+use Rattle.word.proofs.Searches.{any-found, any-has}
+use Rattle.capability.specs.Declaration.{effectCountOf, declaredEffect}
+use Rattle.capability.specs.Repeat.{idAmong, repeats, repeatsAt, Repeat}
 use Rattle.capability.specs.declared.declared.Capabilities.{Capabilities}
-
-pub record Repeat (d : Capabilities) (k : ℕ) : Type 0 where
-  pub index : ℕ
-  pub below : index < effectCountOf d
-  pub mine : effectAt d index .capability ≡ k
-  pub earlier : ℕ
-  pub before : earlier < index
-  pub same : effectAt d earlier .id ≡ effectAt d index .id
 
 pub repeat-has : (d : Capabilities) (k : ℕ) → repeatsAt d k ≡ true → Repeat d k
 unfolding repeatsAt
 repeat-has d k e =
     let r = any-has (repeats (d .effects) k) (effectCountOf d) e in
-    let f = effectAt d (r .0) in
-    let s = any-has (λ i. eqb (effectAt d i .id) (f .id)) (r .0) (and-right (eqb (f .capability) k) (idAmong (d .effects) (f .id) (r .0)) (r .2)) in
-    record { index = r .0; below = r .1; mine = eqb-true (f .capability) k (and-left (eqb (f .capability) k) (idAmong (d .effects) (f .id) (r .0)) (r .2)); earlier = s .0; before = s .1; same = eqb-true (effectAt d (s .0) .id) (f .id) (s .2) }
+    let f = declaredEffect d (r .0) in
+    let s = any-has (λ i. eqb (declaredEffect d i .id) (f .id)) (r .0) (and-right (eqb (f .capability) k) (idAmong (d .effects) (f .id) (r .0)) (r .2)) in
+    record { index = r .0; below = r .1; mine = eqb-true (f .capability) k (and-left (eqb (f .capability) k) (idAmong (d .effects) (f .id) (r .0)) (r .2)); earlier = s .0; before = s .1; same = eqb-true (declaredEffect d (s .0) .id) (f .id) (s .2) }
 
 pub repeat-found : (d : Capabilities) (k : ℕ) → Repeat d k → repeatsAt d k ≡ true
 unfolding repeatsAt
 repeat-found d k r =
-    let f = effectAt d (r .index) in
+    let f = declaredEffect d (r .index) in
     any-found (repeats (d .effects) k) (r .index) (effectCountOf d) (r .below)
-    (rw (eq-eqb (f .capability) k (r .mine)) (any-found (λ i. eqb (effectAt d i .id) (f .id)) (r .earlier) (r .index) (r .before) (eq-eqb (effectAt d (r .earlier) .id) (f .id) (r .same))))
+    (rw (eq-eqb (f .capability) k (r .mine)) (any-found (λ i. eqb (declaredEffect d i .id) (f .id)) (r .earlier) (r .index) (r .before) (eq-eqb (declaredEffect d (r .earlier) .id) (f .id) (r .same))))

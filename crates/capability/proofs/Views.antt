@@ -1,4 +1,4 @@
--- What a view says. Assumes nothing.
+-- What a view says.
 use Prim.Native.Nat.{ℕ, _+_, _-_, _<_, _≤_}
 use mathlib.Core.Bool.{Bool, true, false, _&&_, and-false}
 use mathlib.Core.List.{List, []}
@@ -10,10 +10,14 @@ use lib.ListN.{length, getD, drop, length-take, length-drop}
 use lib.Seq.{getD-take, getD-drop}
 use Rattle.word.proofs.Tests.{and-left, and-right}
 use Rattle.capability.specs.Size.{bodyMost}
-use Rattle.capability.specs.Owner.{capabilitiesOf}
+use Rattle.capability.specs.Layout.{layoutOf}
+use Rattle.capability.specs.Owner.{capabilityCount}
 use Rattle.capability.specs.Snapshot.{bodyStart, bodyLength}
-use Rattle.capability.specs.View.{viewed, bodyIn, bodyOf}
+use Rattle.capability.specs.View.{viewed, Seen, bodyIn, bodyOf}
+use Rattle.capability.specs.Laid.{Laid}
+use Rattle.capability.specs.declared.declared.Capabilities.{Capabilities}
 use Rattle.capability.specs.declared.placed.Placed.{Placed}
+use Rattle.capability.proofs.Laids.{layout-laid}
 
 -- a body is never longer than the longest
 pub body-most : (p : Placed) (i : ℕ) → bodyLength p i ≤ bodyMost
@@ -21,14 +25,8 @@ unfolding bodyLength
 body-most p i = omega arith
 
 module _ (p : Placed) (i : ℕ) (live power : List ℕ) (space : ℕ) where
-  pub record Seen : Type 0 where
-    pub present : i < length (capabilitiesOf p)
-    pub live-whole : length live ≡ space
-    pub power-whole : length power ≡ space
-    pub ends : bodyStart p i + bodyLength p i ≤ space
-
   abbrev there : Bool
-  there = ltb i (length (capabilitiesOf p))
+  there = ltb i (capabilityCount p)
 
   abbrev rest-live : Bool
   rest-live = eqb (length live) space && (eqb (length power) space && leb (bodyStart p i + bodyLength p i) space)
@@ -37,21 +35,21 @@ module _ (p : Placed) (i : ℕ) (live power : List ℕ) (space : ℕ) where
   rest-power = eqb (length power) space && leb (bodyStart p i + bodyLength p i) space
 
   -- there is a view exactly under these four
-  pub viewed-seen : viewed p i live power space ≡ true → Seen
+  pub viewed-seen : viewed p i live power space ≡ true → Seen p i live power space
   unfolding viewed
   viewed-seen e =
       let a = and-right there rest-live e in
       let b = and-right (eqb (length live) space) rest-power a in
-      record { present = ltb-true i (length (capabilitiesOf p)) (and-left there rest-live e); live-whole = eqb-true (length live) space (and-left (eqb (length live) space) rest-power a); power-whole = eqb-true (length power) space (and-left (eqb (length power) space) (leb (bodyStart p i + bodyLength p i) space) b); ends = leb-true (bodyStart p i + bodyLength p i) space (and-right (eqb (length power) space) (leb (bodyStart p i + bodyLength p i) space) b) }
+      record { present = ltb-true i (capabilityCount p) (and-left there rest-live e); live-whole = eqb-true (length live) space (and-left (eqb (length live) space) rest-power a); power-whole = eqb-true (length power) space (and-left (eqb (length power) space) (leb (bodyStart p i + bodyLength p i) space) b); ends = leb-true (bodyStart p i + bodyLength p i) space (and-right (eqb (length power) space) (leb (bodyStart p i + bodyLength p i) space) b) }
 
-  pub seen-viewed : Seen → viewed p i live power space ≡ true
+  pub seen-viewed : Seen p i live power space → viewed p i live power space ≡ true
   unfolding viewed
-  seen-viewed s = rw (lt-ltb i (length (capabilitiesOf p)) (s .present), eq-eqb (length live) space (s .live-whole), eq-eqb (length power) space (s .power-whole), le-leb (bodyStart p i + bodyLength p i) space (s .ends))
+  seen-viewed s = rw (lt-ltb i (capabilityCount p) (s .present), eq-eqb (length live) space (s .live-whole), eq-eqb (length power) space (s .power-whole), le-leb (bodyStart p i + bodyLength p i) space (s .ends))
 
   -- none, for each of the reasons of document 01
-  pub none-past : length (capabilitiesOf p) ≤ i → viewed p i live power space ≡ false
+  pub none-past : capabilityCount p ≤ i → viewed p i live power space ≡ false
   unfolding viewed
-  none-past h = rw (le-ltb i (length (capabilitiesOf p)) h)
+  none-past h = rw (le-ltb i (capabilityCount p) h)
 
   pub none-live : (length live ≡ space → ⊥) → viewed p i live power space ≡ false
   unfolding viewed
@@ -62,9 +60,9 @@ module _ (p : Placed) (i : ℕ) (live power : List ℕ) (space : ℕ) where
   none-power h = rw (ne-eqb (length power) space h, and-false (eqb (length live) space)) (and-false there)
 
   -- the last test
-  pub viewed-last : i < length (capabilitiesOf p) → length live ≡ space → length power ≡ space → leb (bodyStart p i + bodyLength p i) space ≡ viewed p i live power space
+  pub viewed-last : i < capabilityCount p → length live ≡ space → length power ≡ space → leb (bodyStart p i + bodyLength p i) space ≡ viewed p i live power space
   unfolding viewed
-  viewed-last a b c = rw (lt-ltb i (length (capabilitiesOf p)) a, eq-eqb (length live) space b, eq-eqb (length power) space c)
+  viewed-last a b c = rw (lt-ltb i (capabilityCount p) a, eq-eqb (length live) space b, eq-eqb (length power) space c)
 
   -- what is shown
   pub shown-live : viewed p i live power space ≡ true → bodyOf p i live power space true ≡ bodyIn p i live
@@ -91,3 +89,12 @@ body-long p i image h = simp (length-take, length-drop) (omega arith)
 
 pub add-sub : (a b : ℕ) → a + b - a ≡ b
 add-sub a b = omega arith
+
+-- in what a layout gives the body always ends in the space: so there is none for document 01's two reasons only, an index past the last and an image of another length
+pub laid-viewed : (space : ℕ) (p : Placed) → Laid space p → (i : ℕ) (live power : List ℕ) → i < p .count → length live ≡ space → length power ≡ space → viewed p i live power space ≡ true
+unfolding bodyStart bodyLength
+laid-viewed space p l i live power h a b =
+    seen-viewed p i live power space (record { present = omega (arith, l .counted); live-whole = a; power-whole = b; ends = omega (arith, l .inside i h) })
+
+pub layout-viewed : (space : ℕ) (d : Capabilities) (i : ℕ) (live power : List ℕ) → i < layoutOf space d .placed .count → length live ≡ space → length power ≡ space → viewed (layoutOf space d .placed) i live power space ≡ true
+layout-viewed space d = laid-viewed space (layoutOf space d .placed) (layout-laid space d)

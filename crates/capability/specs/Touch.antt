@@ -2,23 +2,14 @@
 use Prim.Native.Nat.{ℕ, _+_, _-_}
 use mathlib.Core.Bool.{Bool, true, false, _&&_, _||_, cond}
 use lib.Dec.{eqb}
-use Rattle.capability.specs.First.{allBelow}
-use Rattle.capability.specs.Owner.{capabilityAt, effectAt, ownerOf, holds}
+use Rattle.word.specs.Search.{allBelow}
+use Rattle.capability.specs.Effect.{accessRead, accessWrite, accessBoth}
+use Rattle.capability.specs.Owner.{capabilityAt, effectAt, startOf, ownerOf, holds}
 use Rattle.capability.specs.declared.placed.Placed.{Placed}
 use Rattle.capability.specs.declared.owner.Owner.{Owner}
 use Rattle.capability.specs.declared.owner.Owner.the-variants as owner
 use Rattle.capability.specs.declared.effect_access.Touch.{Touch}
 use Rattle.capability.specs.declared.effect_access.Touch.the-variants as touch
-
--- tag 7: "access 1 (1 read, 2 write, 3 both)"
-abbrev pub accessRead : ℕ
-accessRead = 1
-
-abbrev pub accessWrite : ℕ
-accessWrite = 2
-
-abbrev pub accessBoth : ℕ
-accessBoth = 3
 
 -- whether an effect's access number allows a direction; one that is none of the three allows neither
 unfoldable pub allows : Bool → ℕ → Bool
@@ -35,7 +26,7 @@ isEffect i (owner.Effect k) = eqb k i
 
 -- the answer of the effect at index i: its capability's id, its region, and the access's offset from the capability's start
 abbrev pub effectAnswer : Placed → ℕ → ℕ → Touch
-effectAnswer p o i = touch.Effect (capabilityAt p (effectAt p i .capability) .id) (effectAt p i) (o - capabilityAt p (effectAt p i .capability) .offset .0)
+effectAnswer p o i = touch.Effect (capabilityAt p (effectAt p i .capability) .id) (effectAt p i) (o - startOf p (effectAt p i .capability))
 
 -- an access whose first byte has this owner: answered if that effect owns every byte and allows the direction
 abbrev pub byOwner : Placed → ℕ → ℕ → Bool → Owner → Touch
@@ -47,12 +38,10 @@ byOwner p o w write (owner.Effect i) =
 unfoldable pub touchOf : Placed → ℕ → ℕ → Bool → Touch
 touchOf p o w write = cond (allBelow (λ k. isNobody (ownerOf p (o + k))) w) touch.Untouched (byOwner p o w write (ownerOf p o))
 
--- document 01's number for each answer, 0 where nothing is refused
-abbrev pub refusalOf : Touch → ℕ
-refusalOf touch.Untouched = 0
-refusalOf (touch.Effect id region offset) = 0
-refusalOf touch.Refused = 19
+-- whether the effect at index i may answer an access: the access is inside it and its direction is allowed
+abbrev pub answers : Placed → ℕ → ℕ → Bool → ℕ → Bool
+answers p o w write i = holds p o w i && allows write (effectAt p i .access)
 
--- the walk's answer at the effect i that the access touches first (proofs/Touches.antt shows that it is touchOf's)
+-- the walk's answer at the effect i that the access touches first (`touch-decision` shows that it is touchOf's)
 unfoldable pub decision : Placed → ℕ → ℕ → Bool → ℕ → Touch
-decision p o w write i = cond (holds p o w i && allows write (effectAt p i .access)) (effectAnswer p o i) touch.Refused
+decision p o w write i = cond (answers p o w write i) (effectAnswer p o i) touch.Refused

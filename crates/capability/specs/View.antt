@@ -1,17 +1,25 @@
 -- Capability views (document 01, "Power-on image": "A capability view hands back the body from the live image or from the power-on image, as asked. A capability index past the last, or a lent image that isn't 256 bytes long, is answered by none, which differs from an empty body").
-use Prim.Native.Nat.{ℕ, _+_}
+use Prim.Native.Nat.{ℕ, _+_, _<_, _≤_}
 use mathlib.Core.Bool.{Bool, _&&_, cond}
 use mathlib.Core.List.{List, []}
+use mathlib.Core.Path.{_≡_}
 use lib.Dec.{ltb, leb, eqb}
 use lib.ListN.{length, take, drop}
-use Rattle.capability.specs.Owner.{capabilitiesOf}
+use Rattle.capability.specs.Owner.{capabilityCount}
 use Rattle.capability.specs.Snapshot.{bodyStart, bodyLength}
 use Rattle.capability.specs.declared.placed.Placed.{Placed}
 
--- whether there is a view: the index is not past the last capability, both images are as long as the config space, and the body ends in it
+-- whether there is a view: the index is not past the last capability, both images are as long as the config space, and the body ends in it (which it does in what the layout gives: `layout-viewed`)
 unfoldable pub viewed : Placed → ℕ → List ℕ → List ℕ → ℕ → Bool
 viewed p i live powerOn space =
-    ltb i (length (capabilitiesOf p)) && (eqb (length live) space && (eqb (length powerOn) space && leb (bodyStart p i + bodyLength p i) space))
+    ltb i (capabilityCount p) && (eqb (length live) space && (eqb (length powerOn) space && leb (bodyStart p i + bodyLength p i) space))
+
+-- the same in words
+pub record Seen (p : Placed) (i : ℕ) (live powerOn : List ℕ) (space : ℕ) : Type 0 where
+  pub present : i < capabilityCount p
+  pub live-whole : length live ≡ space
+  pub power-whole : length powerOn ≡ space
+  pub ends : bodyStart p i + bodyLength p i ≤ space
 
 -- the part of an image that is the body: the same offsets in either
 unfoldable pub bodyIn : Placed → ℕ → List ℕ → List ℕ

@@ -1,13 +1,16 @@
 // Adding an effect to the latest capability: refusal 11.
 ghost use mathlib.Core.Path.{_≡_};
 ghost use Prim.Native.Nat.{_≤_};
-ghost use Rattle.capability.specs.Effect.{overlaps, maskAt, clashes, overlapsEarlier, coversWritable};
-ghost use Rattle.capability.specs.Declaration.{effectLimit, latest, effectBad, addEffectOf};
+ghost use Rattle.address.specs.Limits.{limits, effectRoom};
+ghost use Rattle.capability.specs.Declaration.{latest};
+ghost use Rattle.capability.specs.BadEffect.{maskAt, clashes, overlapsEarlier, coversWritable, effectBad};
+ghost use Rattle.capability.specs.Addition.{addEffectOf};
+ghost use Rattle.capability.specs.Number.{effectAddedNumber};
 use crate::declared::Capabilities;
 use crate::effect::Effect;
 use crate::effect::EffectAccess;
 use crate::placed::CAPABILITY_HEADER_SIZE;
-use crate::placed::EFFECT_LIMIT;
+use address::limits::EFFECT_LIMIT;
 
 pub enum EffectAdded {
     Added,
@@ -21,20 +24,18 @@ pub struct EffectDone {
     pub state: Capabilities,
 }
 
-// Whether some byte is one of the w from o on and one of the v from p on.
-fn regions_overlap(o: usize, w: usize, p: usize, v: usize) -> bool
-    ensures { λ r. ⌜ r ≡ overlaps o w p v ⌝ }
-{
-    if o < p {
-        if v == 0 {
-            return false;
+impl EffectAdded {
+    // Document 01's number for the answer.
+    pub fn number(self) -> u8
+        ensures { λ r. ⌜ r ≡ effectAddedNumber self ⌝ }
+    {
+        match self {
+            EffectAdded::Added => refusal::ACCEPTED,
+            EffectAdded::NoCapability => refusal::OUT_OF_ORDER,
+            EffectAdded::Full => refusal::ABOVE_LIMIT,
+            EffectAdded::Bad => refusal::BAD_EFFECT,
         }
-        return p - o < w;
     }
-    if w == 0 {
-        return false;
-    }
-    o - p < v
 }
 
 // Whether a region of a capability overlaps that of an earlier effect there.
@@ -42,11 +43,11 @@ fn overlaps_one(earlier: Effect, capability: u8, offset: u8, length: u8) -> bool
     ensures { λ r. ⌜ r ≡ clashes earlier capability offset length ⌝ }
 {
     if earlier.capability == capability {
-        return regions_overlap(
-            offset as usize,
-            length as usize,
-            earlier.offset as usize,
-            earlier.length as usize,
+        return word::overlap(
+            offset as u64,
+            length as u64,
+            earlier.offset as u64,
+            earlier.length as u64,
         );
     }
     false
@@ -60,7 +61,7 @@ fn overlaps_earlier(
     offset: u8,
     length: u8,
 ) -> bool
-    requires { ⌜ count ≤ effectLimit ⌝ }
+    requires { ⌜ count ≤ effectRoom ⌝ }
     ensures { λ r. ⌜ r ≡ overlapsEarlier effects count capability offset length ⌝ }
 {
     let mut i = 0;
@@ -81,11 +82,7 @@ fn mask_at(mask: &[u8], at: usize) -> u8
     if at < CAPABILITY_HEADER_SIZE {
         return 0;
     }
-    let i = at - CAPABILITY_HEADER_SIZE;
-    if i < mask.len() {
-        return mask[i];
-    }
-    0
+    word::byte_at(mask, at - CAPABILITY_HEADER_SIZE)
 }
 
 // Whether a region has a byte that the guest may write.
@@ -109,11 +106,7 @@ fn covers_writable(mask: &[u8], offset: u8, length: u8) -> bool
 fn latest_of(declared: Capabilities) -> u8
     ensures { λ r. ⌜ r ≡ latest declared ⌝ }
 {
-    let count = declared.declared_count();
-    if count == 0 {
-        return 0;
-    }
-    (count - 1) as u8
+    word::past(declared.declared_count(), 1) as u8
 }
 
 // Whether the latest capability refuses an effect of `length` bytes from `offset` on.
@@ -150,7 +143,7 @@ impl Capabilities {
         length: u8,
         access: EffectAccess,
     ) -> EffectDone
-        ensures { λ r. ⌜ r ≡ addEffectOf (now (mask .entry)) self id offset length access ⌝ }
+        ensures { λ r. ⌜ r ≡ addEffectOf limits (now (mask .entry)) self id offset length access ⌝ }
     {
         if self.count == 0 {
             return EffectDone {

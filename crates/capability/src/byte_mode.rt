@@ -1,14 +1,11 @@
 // Which capability holds a config byte, and the mode of each byte.
 ghost use mathlib.Core.Path.{_≡_};
-ghost use lib.ListN.{length, getD};
-ghost use Rattle.word.specs.Number.{covers};
-ghost use Rattle.capability.specs.Owner.{capabilitiesOf};
 ghost use Rattle.capability.specs.Mode.{inCapability, holderOf, bodyMode, byteModeOf};
 use crate::owner::Owner;
+use crate::owner::capability_count;
 use crate::owner::owner_of;
 use crate::owner::span_at;
 use crate::placed::CAPABILITY_HEADER_SIZE;
-use crate::placed::CAPABILITY_LIMIT;
 use crate::placed::Placed;
 use address::ConfigOffset;
 
@@ -26,34 +23,12 @@ pub enum ByteMode {
     Outside,
 }
 
-// How many capabilities there are.
-pub(crate) fn capability_count(placed: Placed) -> usize
-    ensures { λ r. ⌜ r ≡ length (capabilitiesOf placed) ⌝ }
-{
-    let n = placed.count;
-    if n < CAPABILITY_LIMIT {
-        n
-    } else {
-        CAPABILITY_LIMIT
-    }
-}
-
-// Whether `at` is one of the `length` bytes from `start` on.
-fn covered(start: usize, length: usize, at: usize) -> bool
-    ensures { λ r. ⌜ r ≡ covers start length at ⌝ }
-{
-    if at < start {
-        return false;
-    }
-    at - start < length
-}
-
 // Whether a byte lies in the capability at an index.
 fn capability_covers(placed: Placed, offset: usize, i: usize) -> bool
     ensures { λ r. ⌜ r ≡ inCapability placed offset i ⌝ }
 {
     let s = span_at(placed, i);
-    covered(
+    word::covered(
         s.start as usize,
         CAPABILITY_HEADER_SIZE + (s.length as usize),
         offset,
@@ -75,13 +50,6 @@ pub fn capability_at(placed: Placed, offset: ConfigOffset) -> Holder
         i += 1;
     }
     Holder::Nobody
-}
-
-// The byte of a lent list at an index, zero past its end.
-pub(crate) fn byte_at(bytes: &[u8], at: usize) -> u8
-    ensures { λ r. ⌜ r ≡ getD (now (bytes .entry)) at 0 ⌝ }
-{
-    if at < bytes.len() { bytes[at] } else { 0 }
 }
 
 // The mode of a body byte.
@@ -108,11 +76,11 @@ pub fn mode_of(placed: Placed, mask: &[u8], offset: ConfigOffset) -> ByteMode
     match capability_at(placed, offset) {
         Holder::Capability(i) => {
             let s = span_at(placed, i);
-            let header = covered(s.start as usize, CAPABILITY_HEADER_SIZE, at);
+            let header = word::covered(s.start as usize, CAPABILITY_HEADER_SIZE, at);
             if header {
                 return ByteMode::Constant;
             }
-            body_mode(owner_of(placed, offset), byte_at(mask, at))
+            body_mode(owner_of(placed, offset), word::byte_at(mask, at))
         }
         Holder::Nobody => ByteMode::Outside,
     }

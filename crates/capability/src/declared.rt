@@ -1,10 +1,13 @@
 // A function's capabilities as they are declared.
 ghost use mathlib.Core.Path.{_≡_};
-ghost use Rattle.capability.specs.Declaration.{capabilityOf, noCapability, noneDeclared, countOf, effectCountOf, lengthAt, addCapabilityOf};
+ghost use Rattle.address.specs.Limits.{limits};
+ghost use Rattle.capability.specs.Declaration.{capabilityOf, noCapability, noneDeclared, countOf, effectCountOf, lengthAt};
+ghost use Rattle.capability.specs.Addition.{addCapabilityOf};
+ghost use Rattle.capability.specs.Number.{capabilityAnswerNumber, capabilityAddedNumber};
 use crate::effect::Effect;
 use crate::placed::CAPABILITY_BODY_MAX_SIZE;
-use crate::placed::CAPABILITY_LIMIT;
-use crate::placed::EFFECT_LIMIT;
+use address::limits::CAPABILITY_LIMIT;
+use address::limits::EFFECT_LIMIT;
 
 // A capability: its id, and the length of its body.
 pub struct Capability {
@@ -71,6 +74,30 @@ impl Capability {
     }
 }
 
+impl CapabilityAnswer {
+    // Document 01's number for the answer.
+    pub fn number(self) -> u8
+        ensures { λ r. ⌜ r ≡ capabilityAnswerNumber self ⌝ }
+    {
+        match self {
+            CapabilityAnswer::Good(_) => refusal::ACCEPTED,
+            CapabilityAnswer::Bad => refusal::LONG_BODY,
+        }
+    }
+}
+
+impl CapabilityAdded {
+    // Document 01's number for the answer.
+    pub fn number(self) -> u8
+        ensures { λ r. ⌜ r ≡ capabilityAddedNumber self ⌝ }
+    {
+        match self {
+            CapabilityAdded::Added => refusal::ACCEPTED,
+            CapabilityAdded::Full => refusal::ABOVE_LIMIT,
+        }
+    }
+}
+
 impl Capabilities {
     pub fn none() -> Capabilities
         ensures { λ r. ⌜ r ≡ noneDeclared ⌝ }
@@ -87,20 +114,14 @@ impl Capabilities {
     pub fn declared_count(self) -> usize
         ensures { λ r. ⌜ r ≡ countOf self ⌝ }
     {
-        if CAPABILITY_LIMIT < self.count {
-            return CAPABILITY_LIMIT;
-        }
-        self.count
+        word::at_most(self.count, CAPABILITY_LIMIT)
     }
 
     // How many effects are.
     pub fn declared_effects(self) -> usize
         ensures { λ r. ⌜ r ≡ effectCountOf self ⌝ }
     {
-        if EFFECT_LIMIT < self.effect_count {
-            return EFFECT_LIMIT;
-        }
-        self.effect_count
+        word::at_most(self.effect_count, EFFECT_LIMIT)
     }
 
     // The body length of the capability at an index, 0 past the array.
@@ -116,7 +137,7 @@ impl Capabilities {
 
     // Declares one more capability; a full list stays as it is.
     pub fn add_capability(self, capability: Capability) -> CapabilityDone
-        ensures { λ r. ⌜ r ≡ addCapabilityOf self capability ⌝ }
+        ensures { λ r. ⌜ r ≡ addCapabilityOf limits self capability ⌝ }
     {
         let n = self.count;
         if CAPABILITY_LIMIT <= n {

@@ -1,6 +1,14 @@
 // Effects as they are declared.
 ghost use mathlib.Core.Path.{_≡_};
-ghost use Rattle.capability.specs.Effect.{accessNumber, accessOfNumber, noEffect};
+ghost use Rattle.capability.specs.Effect.{effectAccessNumber, accessOfNumber, noEffect};
+ghost use Rattle.capability.specs.Number.{accessAnswerNumber};
+
+// Document 01's numbers for an effect's access.
+pub const ACCESS_READ: u8 = 1;
+
+pub const ACCESS_WRITE: u8 = 2;
+
+pub const ACCESS_BOTH: u8 = 3;
 
 // The directions that an effect allows.
 pub enum EffectAccess {
@@ -28,21 +36,37 @@ impl EffectAccess {
     pub fn new(number: u8) -> AccessAnswer
         ensures { λ r. ⌜ r ≡ accessOfNumber number ⌝ }
     {
-        match number {
-            1 => AccessAnswer::Good(EffectAccess::Read),
-            2 => AccessAnswer::Good(EffectAccess::Write),
-            3 => AccessAnswer::Good(EffectAccess::ReadWrite),
-            _ => AccessAnswer::Bad,
+        if number == ACCESS_READ {
+            return AccessAnswer::Good(EffectAccess::Read);
         }
+        if number == ACCESS_WRITE {
+            return AccessAnswer::Good(EffectAccess::Write);
+        }
+        if number == ACCESS_BOTH {
+            return AccessAnswer::Good(EffectAccess::ReadWrite);
+        }
+        AccessAnswer::Bad
     }
 
     pub fn number(self) -> u8
-        ensures { λ r. ⌜ r ≡ accessNumber self ⌝ }
+        ensures { λ r. ⌜ r ≡ effectAccessNumber self ⌝ }
     {
         match self {
-            EffectAccess::Read => 1,
-            EffectAccess::Write => 2,
-            EffectAccess::ReadWrite => 3,
+            EffectAccess::Read => ACCESS_READ,
+            EffectAccess::Write => ACCESS_WRITE,
+            EffectAccess::ReadWrite => ACCESS_BOTH,
+        }
+    }
+}
+
+impl AccessAnswer {
+    // Document 01's number for the answer.
+    pub fn number(self) -> u8
+        ensures { λ r. ⌜ r ≡ accessAnswerNumber self ⌝ }
+    {
+        match self {
+            AccessAnswer::Good(_) => refusal::ACCEPTED,
+            AccessAnswer::Bad => refusal::BAD_FORM,
         }
     }
 }

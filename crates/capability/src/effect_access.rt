@@ -1,7 +1,10 @@
 // Access to an effect: refusal 19.
 ghost use mathlib.Core.Path.{_≡_};
-ghost use Prim.Native.Nat.{_-_};
 ghost use Rattle.capability.specs.Touch.{allows, decision, touchOf};
+ghost use Rattle.capability.specs.Number.{touchNumber};
+use crate::effect::ACCESS_BOTH;
+use crate::effect::ACCESS_READ;
+use crate::effect::ACCESS_WRITE;
 use crate::owner::Owner;
 use crate::owner::effect_at;
 use crate::owner::effect_holds;
@@ -10,13 +13,6 @@ use crate::owner::span_at;
 use crate::placed::Placed;
 use crate::placed::PlacedEffect;
 use address::ConfigOffset;
-
-// The access numbers of an effect.
-const ACCESS_READ: u8 = 1;
-
-const ACCESS_WRITE: u8 = 2;
-
-const ACCESS_BOTH: u8 = 3;
 
 // What an access does to the effects: the capability's id, the region, and the access's offset from the capability's start.
 pub enum Touch {
@@ -27,6 +23,23 @@ pub enum Touch {
         offset: u16,
     },
     Refused,
+}
+
+impl Touch {
+    // Document 01's number for the answer.
+    pub fn number(self) -> u8
+        ensures { λ r. ⌜ r ≡ touchNumber self ⌝ }
+    {
+        match self {
+            Touch::Untouched => refusal::ACCEPTED,
+            Touch::Effect {
+                capability_id: _,
+                region: _,
+                offset: _,
+            } => refusal::ACCEPTED,
+            Touch::Refused => refusal::BAD_TOUCH,
+        }
+    }
 }
 
 // Whether an effect allows a direction.
@@ -43,13 +56,6 @@ fn access_allows(access: u8, write: bool) -> bool
     }
 }
 
-// What a is past b.
-fn past(a: u16, b: u16) -> u16
-    ensures { λ r. ⌜ r ≡ a - b ⌝ }
-{
-    if a < b { 0 } else { a - b }
-}
-
 // The answer at the effect that the access touches first.
 fn decided(placed: Placed, offset: u16, width: usize, write: bool, i: usize) -> Touch
     ensures { λ r. ⌜ r ≡ decision placed offset width write i ⌝ }
@@ -63,7 +69,7 @@ fn decided(placed: Placed, offset: u16, width: usize, write: bool, i: usize) -> 
             return Touch::Effect {
                 capability_id: capability.id,
                 region,
-                offset: past(offset, capability.start),
+                offset: word::past(offset as usize, capability.start as usize) as u16,
             };
         }
     }

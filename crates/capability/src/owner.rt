@@ -1,12 +1,11 @@
 // Which effect owns a byte of config space.
 ghost use mathlib.Core.Path.{_≡_};
-ghost use lib.ListN.{length};
-ghost use Rattle.capability.specs.Owner.{spanOf, effectsOf, effectAt, regionStart, touches, holds, firstTouched, ownerOf};
-use crate::placed::CAPABILITY_LIMIT;
-use crate::placed::EFFECT_LIMIT;
+ghost use Rattle.capability.specs.Owner.{capabilityCount, effectCount, effectAt, startOf, spanOf, regionStart, touches, holds, firstTouched, ownerOf};
 use crate::placed::Placed;
 use crate::placed::PlacedEffect;
 use address::ConfigOffset;
+use address::limits::CAPABILITY_LIMIT;
+use address::limits::EFFECT_LIMIT;
 
 // A capability as plain numbers: its id, its start in config space, the length of its body.
 #[repr(C)]
@@ -22,20 +21,32 @@ pub enum Owner {
     Nobody,
 }
 
+// How many capabilities there are.
+pub fn capability_count(placed: Placed) -> usize
+    ensures { λ r. ⌜ r ≡ capabilityCount placed ⌝ }
+{
+    word::at_most(placed.count, CAPABILITY_LIMIT)
+}
+
+// How many effects there are.
+fn effect_count(placed: Placed) -> usize
+    ensures { λ r. ⌜ r ≡ effectCount placed ⌝ }
+{
+    word::at_most(placed.effect_count, EFFECT_LIMIT)
+}
+
 // The capability at an index; all zero past the last.
 pub(crate) fn span_at(placed: Placed, i: usize) -> Span
     ensures { λ r. ⌜ r ≡ spanOf placed i ⌝ }
 {
-    if i < placed.count {
-        if i < CAPABILITY_LIMIT {
-            let c = placed.capabilities[i];
-            let offset = c.offset;
-            return Span {
-                id: c.id,
-                start: offset.value(),
-                length: c.length,
-            };
-        }
+    if i < capability_count(placed) {
+        let c = placed.capabilities[i];
+        let offset = c.offset;
+        return Span {
+            id: c.id,
+            start: offset.value(),
+            length: c.length,
+        };
     }
     Span {
         id: 0,
@@ -44,30 +55,22 @@ pub(crate) fn span_at(placed: Placed, i: usize) -> Span
     }
 }
 
-// How many effects there are.
-fn effect_count(placed: Placed) -> usize
-    ensures { λ r. ⌜ r ≡ length (effectsOf placed) ⌝ }
+// Where the capability at an index starts, 0 past the last.
+pub fn capability_start(placed: Placed, i: usize) -> u16
+    ensures { λ r. ⌜ r ≡ startOf placed i ⌝ }
 {
-    let n = placed.effect_count;
-    if n < EFFECT_LIMIT { n } else { EFFECT_LIMIT }
+    let s = span_at(placed, i);
+    s.start
 }
 
 // The effect at an index, blank past the last.
 pub(crate) fn effect_at(placed: Placed, i: usize) -> PlacedEffect
     ensures { λ r. ⌜ r ≡ effectAt placed i ⌝ }
 {
-    if i < placed.effect_count {
-        if i < EFFECT_LIMIT {
-            return placed.effects[i];
-        }
+    if i < effect_count(placed) {
+        return placed.effects[i];
     }
-    PlacedEffect {
-        id: 0,
-        capability: 0,
-        offset: 0,
-        length: 0,
-        access: 0,
-    }
+    PlacedEffect::none()
 }
 
 // Where the region of an effect starts in config space.
@@ -84,17 +87,7 @@ fn effect_touched(placed: Placed, offset: usize, width: usize, i: usize) -> bool
 {
     let e = effect_at(placed, i);
     let start = region_start(placed, e);
-    let length = e.length as usize;
-    if offset < start {
-        if length == 0 {
-            return false;
-        }
-        return start - offset < width;
-    }
-    if width == 0 {
-        return false;
-    }
-    offset - start < length
+    word::overlap(offset as u64, width as u64, start as u64, e.length as u64)
 }
 
 // Whether every byte of it does.

@@ -1,10 +1,9 @@
 // Capabilities and effects at their places in config space, as a function's state keeps them.
+ghost use mathlib.Core.Path.{_≡_};
+ghost use Rattle.capability.specs.Blank.{noPlacedCapability, noPlacedEffect, nothingPlaced};
 use address::ConfigOffset;
-
-// The most capabilities and effects of one function.
-pub const CAPABILITY_LIMIT: usize = 16;
-
-pub const EFFECT_LIMIT: usize = 32;
+use address::limits::CAPABILITY_LIMIT;
+use address::limits::EFFECT_LIMIT;
 
 // The bytes of a capability before its body, and the longest body.
 pub const CAPABILITY_HEADER_SIZE: usize = 2;
@@ -36,4 +35,46 @@ pub struct Placed {
     pub count: usize,
     pub effects: [PlacedEffect; EFFECT_LIMIT],
     pub effect_count: usize,
+}
+
+impl PlacedCapability {
+    // What stands past the last capability.
+    pub fn none() -> PlacedCapability
+        ensures { λ r. ⌜ r ≡ noPlacedCapability ⌝ }
+    {
+        PlacedCapability {
+            id: 0,
+            offset: ConfigOffset::zero(),
+            length: 0,
+        }
+    }
+}
+
+impl PlacedEffect {
+    // What stands past the last effect.
+    pub fn none() -> PlacedEffect
+        ensures { λ r. ⌜ r ≡ noPlacedEffect ⌝ }
+    {
+        PlacedEffect {
+            id: 0,
+            capability: 0,
+            offset: 0,
+            length: 0,
+            access: 0,
+        }
+    }
+}
+
+impl Placed {
+    // Nothing at all.
+    pub fn none() -> Placed
+        ensures { λ r. ⌜ r ≡ nothingPlaced ⌝ }
+    {
+        Placed {
+            capabilities: [PlacedCapability::none(); CAPABILITY_LIMIT],
+            count: 0,
+            effects: [PlacedEffect::none(); EFFECT_LIMIT],
+            effect_count: 0,
+        }
+    }
 }

@@ -4,7 +4,6 @@ ghost use Prim.Native.Nat.{_<_};
 ghost use lib.ListN.{replicate};
 ghost use Rattle.capability.specs.Size.{bodyMost};
 ghost use Rattle.capability.specs.Snapshot.{bodyStart, bodyLength, snapshotOf};
-use crate::byte_mode::byte_at;
 use crate::owner::span_at;
 use crate::placed::CAPABILITY_BODY_MAX_SIZE;
 use crate::placed::CAPABILITY_HEADER_SIZE;
@@ -30,12 +29,7 @@ pub(crate) fn body_length(placed: Placed, i: usize) -> usize
     ensures { λ r. ⌜ r ≡ bodyLength placed i ⌝ }
 {
     let s = span_at(placed, i);
-    let n = s.length as usize;
-    if n < CAPABILITY_BODY_MAX_SIZE {
-        n
-    } else {
-        CAPABILITY_BODY_MAX_SIZE
-    }
+    word::at_most(s.length as usize, CAPABILITY_BODY_MAX_SIZE)
 }
 
 fn blank() -> [u8; CAPABILITY_BODY_MAX_SIZE]
@@ -53,7 +47,7 @@ pub fn snapshot_of(placed: Placed, image: &[u8], i: usize) -> Snapshot
     let mut bytes = blank();
     let mut k = 0;
     while k < length {
-        bytes[k] = byte_at(image, start + k);
+        bytes[k] = word::byte_at(image, start + k);
         k += 1;
     }
     Snapshot {

@@ -2,7 +2,7 @@
 ghost use mathlib.Core.Bool.{cond};
 ghost use mathlib.Core.Path.{_≡_};
 ghost use Rattle.capability.specs.View.{viewed, bodyOf};
-use crate::byte_mode::capability_count;
+use crate::owner::capability_count;
 use crate::placed::Placed;
 use crate::snapshot::body_length;
 use crate::snapshot::body_start;

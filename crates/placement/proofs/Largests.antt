@@ -1,4 +1,4 @@
--- The largest that waits, found key by key, is the next one. Assumes nothing.
+-- The largest that waits, found key by key, is the next one.
 use Prim.Native.Nat.{ℕ, zero, suc, _<_, _≤_}
 use mathlib.Core.Bool.{Bool, true, false, _&&_, cond}
 use mathlib.Core.List.{List}
@@ -6,42 +6,34 @@ use mathlib.Core.Logic.{⊎-elim}
 use mathlib.Core.Path.{_≡_, refl}
 use native.Mathlib.Omega.{arith}
 use borrow.Author.Tests.{lt-ltb, ltb-true, ltb-false, eq-eqb, ne-eqb}
-use lib.Dec.{ltb, eqb}
+use lib.Dec.{ltb}
 use lib.ListN.{getD}
-use Rattle.word.proofs.Tests.{below-or-not, true-or-false, and-left, and-right}
-use Rattle.bar.specs.Bar.{noBar}
+use Rattle.word.proofs.Tests.{below-or-not, true-or-false, never}
 use Rattle.bar.specs.declared.range.Range.{Range}
 use Rattle.bar.specs.declared.memory_bar.MemoryBar.{MemoryBar}
 use Rattle.bar.specs.declared.memory_bar.Request.the-variants.{Auto, Fixed}
-use Rattle.placement.specs.Limits.{barLimit}
+use Rattle.placement.specs.Keys.{keyCount}
 use Rattle.placement.specs.Place.{noRange}
-use Rattle.placement.specs.Passes.{isAuto, waits, nextOf}
+use Rattle.placement.specs.Order.{sizeAt, requestAt}
+use Rattle.placement.specs.Passes.{waits, nextOf}
 use Rattle.placement.specs.Largest.{waiting, waitingAt, largestIn}
 use Rattle.placement.specs.declared.automatic.Next.the-variants.{At, Nothing}
 use Rattle.placement.specs.declared.waiting.Waiting.{Waiting}
-use Rattle.placement.proofs.Leasts.{never}
-use Rattle.placement.proofs.Nexts.{sizeAt, larger-before, equal-before, next-at, next-none}
+use Rattle.placement.proofs.Nexts.{next-at, next-none}
+use Rattle.placement.proofs.Orders.{larger-before, equal-before}
+use Rattle.placement.proofs.Waits.{waits-size}
 
 module _ (bars : List MemoryBar) (placed : List Range) where
   -- the size that waits at a key
   abbrev pub waitingSize : ℕ → ℕ
   waitingSize key = cond (waits bars placed key) (sizeAt bars key) 0
 
-  -- what waits has a size
-  pub waits-size : (key : ℕ) → waits bars placed key ≡ true → 0 < sizeAt bars key
-  unfolding waits
-  waits-size key e =
-      let a = isAuto (getD bars key noBar .request) in
-      let s = ltb 0 (sizeAt bars key) in
-      let g = eqb (getD placed key noRange .size) 0 in
-      ltb-true 0 (sizeAt bars key) (and-left s g (and-right a (s && g) e))
-
   -- by the request, and by what the key has
-  pub waiting-fixed : (key a : ℕ) → getD bars key noBar .request ≡ Fixed a → waitingAt bars placed key ≡ waiting key 0
+  pub waiting-fixed : (key a : ℕ) → requestAt bars key ≡ Fixed a → waitingAt bars placed key ≡ waiting key 0
   unfolding waitingAt waits
   waiting-fixed key a e = rw e
 
-  pub waiting-placed : (key : ℕ) → getD bars key noBar .request ≡ Auto → (getD placed key noRange .size ≡ 0 → ⊥) → waitingAt bars placed key ≡ waiting key 0
+  pub waiting-placed : (key : ℕ) → requestAt bars key ≡ Auto → (getD placed key noRange .size ≡ 0 → ⊥) → waitingAt bars placed key ≡ waiting key 0
   unfolding waitingAt waits
   waiting-placed key e h = rw (e, ne-eqb (getD placed key noRange .size) 0 h) (by-size (ltb 0 (sizeAt bars key)))
     where
@@ -49,7 +41,7 @@ module _ (bars : List MemoryBar) (placed : List Range) where
       by-size true = refl
       by-size false = refl
 
-  pub waiting-auto : (key : ℕ) → getD bars key noBar .request ≡ Auto → getD placed key noRange .size ≡ 0 → waitingAt bars placed key ≡ waiting key (sizeAt bars key)
+  pub waiting-auto : (key : ℕ) → requestAt bars key ≡ Auto → getD placed key noRange .size ≡ 0 → waitingAt bars placed key ≡ waiting key (sizeAt bars key)
   unfolding waitingAt waits
   waiting-auto key e f =
       rw (e, eq-eqb (getD placed key noRange .size) 0 f)
@@ -80,14 +72,14 @@ module _ (bars : List MemoryBar) (placed : List Range) where
   waits-waiting : (key : ℕ) → waits bars placed key ≡ true → waitingSize key ≡ sizeAt bars key
   waits-waiting key e = rw e
 
-  pub largest-none : largestIn bars placed barLimit .size ≡ 0 → nextOf bars placed ≡ Nothing
+  pub largest-none : largestIn bars placed keyCount .size ≡ 0 → nextOf bars placed ≡ Nothing
   largest-none e =
-      next-none bars placed (λ y h. never (waits bars placed y) (λ t. omega (arith, waits-size y t, waits-waiting y t, largest-is barLimit .most y h)))
+      next-none bars placed (λ y h. never (waits bars placed y) (λ t. omega (arith, waits-size bars placed y t, waits-waiting y t, largest-is keyCount .most y h)))
 
-  pub largest-next : (0 < largestIn bars placed barLimit .size) → nextOf bars placed ≡ At (largestIn bars placed barLimit .key)
+  pub largest-next : (0 < largestIn bars placed keyCount .size) → nextOf bars placed ≡ At (largestIn bars placed keyCount .key)
   largest-next h =
-      let l = largest-is barLimit in
-      let x = largestIn bars placed barLimit .key in
+      let l = largest-is keyCount in
+      let x = largestIn bars placed keyCount .key in
       let r = l .there h in
       let w = size-waits x (omega (arith, h, r .1)) in
       next-at bars placed x (r .0) (record {
@@ -100,8 +92,8 @@ module _ (bars : List MemoryBar) (placed : List Range) where
       })
 
   -- where there is no next one, nothing waits
-  pub none-waits : nextOf bars placed ≡ Nothing → (y : ℕ) → y < barLimit → waits bars placed y ≡ false
+  pub none-waits : nextOf bars placed ≡ Nothing → (y : ℕ) → y < keyCount → waits bars placed y ≡ false
   none-waits e y h =
-      ⊎-elim (λ (z : 0 < largestIn bars placed barLimit .size). let q = largest-next z in let w : _≡_ {A = ℕ} 0 1 = cc in absurd (omega arith))
-      (λ (z : largestIn bars placed barLimit .size ≤ 0). never (waits bars placed y) (λ t. omega (arith, waits-size y t, waits-waiting y t, largest-is barLimit .most y h)))
-      (below-or-not 0 (largestIn bars placed barLimit .size))
+      ⊎-elim (λ (z : 0 < largestIn bars placed keyCount .size). let q = largest-next z in let w : _≡_ {A = ℕ} 0 1 = cc in absurd (omega arith))
+      (λ (z : largestIn bars placed keyCount .size ≤ 0). never (waits bars placed y) (λ t. omega (arith, waits-size bars placed y t, waits-waiting y t, largest-is keyCount .most y h)))
+      (below-or-not 0 (largestIn bars placed keyCount .size))

@@ -1,17 +1,23 @@
 -- The laws that the crates above cite.
-pub mod Leasts
+pub mod Fits
 pub mod Places
 pub mod Skips
+pub mod Counts
 pub mod Turns
-pub mod Fills
 pub mod Slots
 pub mod Verdicts
 pub mod Steps
+pub mod Orders
+pub mod Waits
 pub mod Nexts
 pub mod Largests
+pub mod Rules
 pub mod Cases
-pub mod Goods
-pub mod Givens
+pub mod Sounds
+pub mod FixedPass
+pub mod AutoPass
+pub mod Agrees
+pub mod Outcomes
 pub mod Answers
 pub mod Runs
 pub mod Examples

@@ -1,4 +1,4 @@
--- What a place is, and that the lowest one is unique. Assumes nothing.
+-- What a place is, and that the lowest one is unique.
 use Prim.Native.Nat.{ℕ, _+_, _<_, _≤_}
 use mathlib.Core.Bool.{true, false, not, _&&_}
 use mathlib.Core.List.{List}
@@ -7,8 +7,8 @@ use mathlib.Core.Path.{_≡_, refl}
 use native.Mathlib.Omega.{arith}
 use borrow.Author.Tests.{not-true}
 use lib.ListN.{length, getD, List·getD-eq-default}
-use Rattle.word.proofs.Tests.{below-or-not, and-left, and-right}
-use Rattle.word.proofs.Tables.{any-found, any-has}
+use Rattle.word.proofs.Tests.{below-or-not, both, never, and-left, and-right}
+use Rattle.word.proofs.Searches.{any-found, any-has}
 use Rattle.bar.specs.Range.{range, multiple, liesIn, meets}
 use Rattle.bar.specs.declared.range.Range.{Range}
 use Rattle.bar.specs.declared.range.Aperture.{Aperture}
@@ -16,7 +16,7 @@ use Rattle.bar.proofs.Ranges.{empty-second, lies-end}
 use Rattle.placement.specs.Place.{noRange, meetsAny, isPlace, Lowest, leastFit, lowestOf}
 use Rattle.placement.specs.declared.search.Fit.{Fit}
 use Rattle.placement.specs.declared.search.Fit.the-variants.{At, Nothing}
-use Rattle.placement.proofs.Leasts.{both, never, LeastIn, fit-least, fit-unique}
+use Rattle.placement.proofs.Fits.{LeastIn, fit-least, fit-unique}
 
 -- a range meets one of a list, or is free of each
 pub met-any : (r : Range) (placed : List Range) (i : ℕ) → meets r (getD placed i noRange) ≡ true → meetsAny r placed ≡ true

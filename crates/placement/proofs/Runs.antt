@@ -1,9 +1,10 @@
--- The second pass from its first step on, for worked examples: a refusal stays, and so does a pass with nothing left. Assumes nothing.
+-- The second pass from its first step on, for worked examples: a refusal stays, and so does a pass with nothing left.
 use Prim.Native.Nat.{ℕ, zero, suc}
 use mathlib.Core.List.{List}
 use mathlib.Core.Path.{_≡_, refl, sym, ap, _∙_}
 use lib.ListN.{set}
-use Rattle.placement.specs.Limits.{barLimit}
+use Rattle.refusal.specs.Number.{noPlace}
+use Rattle.placement.specs.Keys.{keyCount}
 use Rattle.placement.specs.Keys.{barsOf}
 use Rattle.placement.specs.Answer.{answered, placementOf}
 use Rattle.placement.specs.declared.declared_bars.DeclaredBars.{DeclaredBars}
@@ -12,14 +13,14 @@ use Rattle.bar.specs.declared.range.Range.{Range}
 use Rattle.bar.specs.declared.range.Aperture.{Aperture}
 use Rattle.bar.specs.declared.memory_bar.MemoryBar.{MemoryBar}
 use Rattle.placement.specs.Place.{Lowest}
-use Rattle.placement.specs.Passes.{noPlace, placing, fixedAfter, nextOf, fitted, autoStep, autoAfter, placingOf}
+use Rattle.placement.specs.Order.{sizeAt}
+use Rattle.placement.specs.Passes.{placing, fixedAfter, nextOf, fitted, autoStep, autoAfter, placingOf}
 use Rattle.placement.specs.declared.search.Fit.the-variants as fit
 use Rattle.placement.specs.declared.automatic.Next.the-variants as next
 use Rattle.placement.specs.declared.placing.Verdict.the-variants.{Going, Refused}
 use Rattle.placement.specs.declared.placing.Placing.{Placing}
 use Rattle.placement.proofs.Places.{is-lowest}
 use Rattle.placement.proofs.Steps.{auto-refused, auto-none, auto-next}
-use Rattle.placement.proofs.Nexts.{sizeAt}
 
 module _ (aperture : Aperture) (bars : List MemoryBar) where
   from-first : (s : Placing) (n : ℕ) → autoAfter aperture bars s (suc n) ≡ autoAfter aperture bars (autoStep aperture bars s) n
@@ -55,12 +56,12 @@ module _ (aperture : Aperture) (bars : List MemoryBar) where
 
 module _ (aperture : Aperture) (d : DeclaredBars) where
   -- the answer from both passes
-  pub answer-from : (s t : Placing) → fixedAfter aperture (barsOf d) barLimit ≡ s → autoAfter aperture (barsOf d) s barLimit ≡ t → placementOf aperture d ≡ answered d (t .verdict) (t .placed)
+  pub answer-from : (s t : Placing) → fixedAfter aperture (barsOf d) keyCount ≡ s → autoAfter aperture (barsOf d) s keyCount ≡ t → placementOf aperture d ≡ answered d (t .verdict) (t .placed)
   unfolding placementOf placingOf
   answer-from s t e f =
-      ap (λ (u : Placing). answered d (u .verdict) (u .placed)) (ap (λ (u : Placing). autoAfter aperture (barsOf d) u barLimit) e ∙ f)
+      ap (λ (u : Placing). answered d (u .verdict) (u .placed)) (ap (λ (u : Placing). autoAfter aperture (barsOf d) u keyCount) e ∙ f)
 
   -- a refusal of the first pass
-  pub answer-stopped : (placed : List Range) (number x : ℕ) → fixedAfter aperture (barsOf d) barLimit ≡ placing (Refused number x) placed → placementOf aperture d ≡ answered d (Refused number x) placed
+  pub answer-stopped : (placed : List Range) (number x : ℕ) → fixedAfter aperture (barsOf d) keyCount ≡ placing (Refused number x) placed → placementOf aperture d ≡ answered d (Refused number x) placed
   answer-stopped placed number x e =
-      answer-from (placing (Refused number x) placed) (placing (Refused number x) placed) e (run-stopped aperture (barsOf d) placed barLimit number x)
+      answer-from (placing (Refused number x) placed) (placing (Refused number x) placed) e (run-stopped aperture (barsOf d) placed keyCount number x)

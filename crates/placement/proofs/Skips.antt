@@ -1,4 +1,4 @@
--- How the search goes on without passing a place: the next multiple, and the end of a range that is met. Assumes nothing.
+-- How the search goes on without passing a place: the next multiple, and the end of a range that is met.
 use Prim.Native.Nat.{ℕ, zero, suc, _+_, _-_, _%_, _^_, _<_, _≤_}
 use mathlib.Core.Bool.{Bool, true, false, _&&_, cond}
 use mathlib.Core.List.{List}
@@ -9,49 +9,49 @@ use native.Mathlib.Omega.{arith}
 use borrow.Author.Tests.{le-leb, leb-true}
 use lib.Dec.{leb, ltb}
 use lib.ListN.{length, getD}
-use Rattle.word.proofs.Tests.{below-or-not, and-left, and-right}
+use Rattle.word.proofs.Tests.{below-or-not, never, and-left, and-right}
 use Rattle.bar.specs.Range.{range, multiple, meets}
 use Rattle.bar.specs.declared.range.Range.{Range}
 use Rattle.bar.proofs.Ranges.{multiple-zero, zero-multiple}
 use Rattle.placement.specs.Place.{noRange, meetsAny}
-use Rattle.placement.specs.Skip.{aligned, alignedFrom, lower, conflictIn}
+use Rattle.placement.specs.Skip.{multipleFrom, alignedFrom, lower, conflictIn}
 use Rattle.placement.specs.declared.search.Fit.{Fit}
 use Rattle.placement.specs.declared.search.Fit.the-variants.{At, Nothing}
 use Rattle.placement.specs.declared.conflict.Conflict.{Conflict}
 use Rattle.placement.specs.declared.conflict.Conflict.the-variants.{With, Free}
-use Rattle.placement.proofs.Leasts.{never, LeastIn, fit-least, fit-unique}
+use Rattle.placement.proofs.Fits.{LeastIn, fit-least, fit-unique}
 use Rattle.placement.proofs.Places.{met-any, free-any}
 
 -- a multiple from a number on
-pub is-aligned : (from size a : ℕ) → from ≤ a → multiple (range a size) ≡ true → aligned from size a ≡ true
-unfolding aligned
-is-aligned from size a h e = rw (le-leb from a h) e
+pub is-multiple-from : (from size a : ℕ) → from ≤ a → multiple (range a size) ≡ true → multipleFrom from size a ≡ true
+unfolding multipleFrom
+is-multiple-from from size a h e = rw (le-leb from a h) e
 
-pub aligned-from : (from size a : ℕ) → aligned from size a ≡ true → from ≤ a
-unfolding aligned
-aligned-from from size a e = leb-true from a (and-left (leb from a) (multiple (range a size)) e)
+pub multiple-from-le : (from size a : ℕ) → multipleFrom from size a ≡ true → from ≤ a
+unfolding multipleFrom
+multiple-from-le from size a e = leb-true from a (and-left (leb from a) (multiple (range a size)) e)
 
-pub aligned-multiple : (from size a : ℕ) → aligned from size a ≡ true → multiple (range a size) ≡ true
-unfolding aligned
-aligned-multiple from size a e = and-right (leb from a) (multiple (range a size)) e
+pub multiple-from-multiple : (from size a : ℕ) → multipleFrom from size a ≡ true → multiple (range a size) ≡ true
+unfolding multipleFrom
+multiple-from-multiple from size a e = and-right (leb from a) (multiple (range a size)) e
 
-no-aligned : (from size a : ℕ) → (from ≤ a → a % size ≡ 0 → ⊥) → aligned from size a ≡ false
-no-aligned from size a h = never (aligned from size a) (λ t. h (aligned-from from size a t) (multiple-zero (range a size) (aligned-multiple from size a t)))
+no-multiple-from : (from size a : ℕ) → (from ≤ a → a % size ≡ 0 → ⊥) → multipleFrom from size a ≡ false
+no-multiple-from from size a h = never (multipleFrom from size a) (λ t. h (multiple-from-le from size a t) (multiple-zero (range a size) (multiple-from-multiple from size a t)))
 
 -- the answer is the least such number of 64 bits
-pub aligned-is : (from size : ℕ) (next : Fit) → next ≡ alignedFrom from size → LeastIn (aligned from size) (2 ^ 64) next
+pub aligned-is : (from size : ℕ) (next : Fit) → next ≡ alignedFrom from size → LeastIn (multipleFrom from size) (2 ^ 64) next
 unfolding alignedFrom
-aligned-is from size next e = subst (λ (f : Fit). LeastIn (aligned from size) (2 ^ 64) f) (sym e) (fit-least (aligned from size) (2 ^ 64))
+aligned-is from size next e = subst (λ (f : Fit). LeastIn (multipleFrom from size) (2 ^ 64) f) (sym e) (fit-least (multipleFrom from size) (2 ^ 64))
 
-is-least : (from size : ℕ) (next : Fit) → LeastIn (aligned from size) (2 ^ 64) next → next ≡ alignedFrom from size
-is-least from size next l = fit-unique (aligned from size) (2 ^ 64) next (alignedFrom from size) l (aligned-is from size (alignedFrom from size) refl)
+is-least : (from size : ℕ) (next : Fit) → LeastIn (multipleFrom from size) (2 ^ 64) next → next ≡ alignedFrom from size
+is-least from size next l = fit-unique (multipleFrom from size) (2 ^ 64) next (alignedFrom from size) l (aligned-is from size (alignedFrom from size) refl)
 
 pub aligned-at : (from size a : ℕ) → from ≤ a → a < 2 ^ 64 → a % size ≡ 0 → ((b : ℕ) → from ≤ b → b < a → b % size ≡ 0 → ⊥) → At a ≡ alignedFrom from size
 aligned-at from size a h l e f =
-    is-least from size (At a) (l, is-aligned from size a h (zero-multiple (range a size) e), λ b k. no-aligned from size b (λ m. f b m k))
+    is-least from size (At a) (l, is-multiple-from from size a h (zero-multiple (range a size) e), λ b k. no-multiple-from from size b (λ m. f b m k))
 
 pub aligned-nothing : (from size : ℕ) → ((b : ℕ) → from ≤ b → b < 2 ^ 64 → b % size ≡ 0 → ⊥) → Nothing ≡ alignedFrom from size
-aligned-nothing from size f = is-least from size Nothing (λ b k. no-aligned from size b (λ m. f b m k))
+aligned-nothing from size f = is-least from size Nothing (λ b k. no-multiple-from from size b (λ m. f b m k))
 
 -- what is missing to the next multiple, and that none lies between
 pub gap-multiple : (from size gap : ℕ) → from % size + gap ≡ size → (from + gap) % size ≡ 0

@@ -1,32 +1,39 @@
--- The BAR at a slot, and at a key. Assumes nothing.
-use Prim.Native.Nat.{ℕ, _/_, _%_, _<_, _≤_}
+-- The BAR at a slot, and at a key.
+use Prim.Native.Nat.{ℕ, zero, suc, _/_, _%_, _<_, _≤_}
 use mathlib.Core.Bool.{true, false}
-use mathlib.Core.Path.{_≡_}
+use mathlib.Core.List.{List, [], _∷_}
+use mathlib.Core.Path.{_≡_, refl}
 use native.Mathlib.Omega.{arith}
 use borrow.Author.Tests.{lt-ltb, le-ltb}
-use lib.ListN.{getD}
+use lib.ListN.{length, getD}
+use Rattle.word.proofs.Searches.{first-is, first-none}
 use Rattle.address.specs.Layout.{barCount}
 use Rattle.bar.specs.Bar.{noBar}
-use Rattle.placement.specs.Keys.{noFunction, barsIn, standsAt, slotBar, barAt}
+use Rattle.placement.specs.Keys.{noFunction, barsIn, standsAt, slotBar, declaredAt}
 use Rattle.placement.specs.declared.declared_bars.FunctionBars.{FunctionBars}
 use Rattle.placement.specs.declared.declared_bars.DeclaredBars.{DeclaredBars}
-use Rattle.placement.proofs.Leasts.{least-at, least-none}
 
 module _ (f : FunctionBars) (s : ℕ) where
   -- the first one that stands there
   pub slot-first : (i : ℕ) → i < barsIn f → standsAt f s i ≡ true → ((k : ℕ) → k < i → standsAt f s k ≡ false) → slotBar f s ≡ getD (f .bars) i noBar
   unfolding slotBar
-  slot-first i h e n = rw (least-at (standsAt f s) (barsIn f) i h e n, lt-ltb i (barsIn f) h)
+  slot-first i h e n = first-is (λ k. getD (f .bars) k noBar) noBar (standsAt f s) (barsIn f) i (record { below = h; before = n; here = e })
 
   pub slot-none : ((k : ℕ) → k < barsIn f → standsAt f s k ≡ false) → slotBar f s ≡ noBar
   unfolding slotBar
-  slot-none n = rw (least-none (standsAt f s) (barsIn f) n, le-ltb (barsIn f) (barsIn f) (omega arith))
+  slot-none n = first-none (λ k. getD (f .bars) k noBar) noBar (standsAt f s) (barsIn f) n
+
+-- below the end of a list no blank is seen
+pub any-blank : {A : Type 0} (l : List A) (i : ℕ) (a b : A) → i < length l → getD l i a ≡ getD l i b
+any-blank [] i a b h = absurd (omega arith)
+any-blank (x ∷ l) zero a b h = refl
+any-blank (x ∷ l) (suc i) a b h = any-blank l i a b (omega arith)
 
 module _ (d : DeclaredBars) (key : ℕ) where
-  pub key-in : key / barCount < d .count → barAt d key ≡ slotBar (getD (d .functions) (key / barCount) noFunction) (key % barCount)
-  unfolding barAt
-  key-in h = rw (lt-ltb (key / barCount) (d .count) h)
+  pub key-in : (blank : FunctionBars) → key / barCount < length (d .functions) → key / barCount < d .count → declaredAt d key ≡ slotBar (getD (d .functions) (key / barCount) blank) (key % barCount)
+  unfolding declaredAt
+  key-in blank l h = rw (lt-ltb (key / barCount) (d .count) h, any-blank (d .functions) (key / barCount) noFunction blank l)
 
-  pub key-past : d .count ≤ key / barCount → barAt d key ≡ noBar
-  unfolding barAt
+  pub key-past : d .count ≤ key / barCount → declaredAt d key ≡ noBar
+  unfolding declaredAt
   key-past h = rw (le-ltb (key / barCount) (d .count) h)

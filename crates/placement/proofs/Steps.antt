@@ -1,15 +1,14 @@
--- One step of a pass, by the verdict so far and by what is asked. Assumes nothing.
+-- One step of a pass, by the verdict so far and by what is asked.
 use Prim.Native.Nat.{ℕ}
 use mathlib.Core.List.{List}
 use mathlib.Core.Path.{_≡_, sym, ap, _∙_}
-use lib.ListN.{getD}
 use Rattle.bar.specs.Range.{range}
-use Rattle.bar.specs.Bar.{noBar}
 use Rattle.bar.specs.declared.range.Range.{Range}
 use Rattle.bar.specs.declared.range.Aperture.{Aperture}
 use Rattle.bar.specs.declared.memory_bar.MemoryBar.{MemoryBar}
 use Rattle.bar.specs.declared.memory_bar.Request.the-variants.{Auto, Fixed}
 use Rattle.placement.specs.Place.{lowestOf}
+use Rattle.placement.specs.Order.{sizeAt, requestAt}
 use Rattle.placement.specs.Passes.{placing, onward, settled, fixedVerdict, fixedBar, fixedStep, nextOf, fitted, autoBar, autoStep}
 use Rattle.placement.specs.declared.automatic.Next.the-variants as next
 use Rattle.placement.specs.declared.placing.Verdict.{Verdict}
@@ -27,18 +26,18 @@ module _ (aperture : Aperture) (bars : List MemoryBar) (s : Placing) where
   module _ (key : ℕ) where
     pub fixed-refused : (number k : ℕ) → s .verdict ≡ Refused number k → fixedStep aperture bars key s ≡ s
     unfolding fixedStep
-    fixed-refused number k e = onward-refused (fixedBar aperture key (getD bars key noBar .size) (getD bars key noBar .request)) (s .placed) (s .verdict) number k e
+    fixed-refused number k e = onward-refused (fixedBar aperture key (sizeAt bars key) (requestAt bars key)) (s .placed) (s .verdict) number k e
 
-    pub fixed-waits : s .verdict ≡ Going → getD bars key noBar .request ≡ Auto → fixedStep aperture bars key s ≡ s
+    pub fixed-waits : s .verdict ≡ Going → requestAt bars key ≡ Auto → fixedStep aperture bars key s ≡ s
     unfolding fixedStep
     fixed-waits e f =
-        onward-going (fixedBar aperture key (getD bars key noBar .size) (getD bars key noBar .request)) (s .placed) (s .verdict) e ∙
+        onward-going (fixedBar aperture key (sizeAt bars key) (requestAt bars key)) (s .placed) (s .verdict) e ∙
         rw f (ap (λ (v : Verdict). placing v (s .placed)) (sym e))
 
-    pub fixed-asks : (a : ℕ) → s .verdict ≡ Going → getD bars key noBar .request ≡ Fixed a → let r = range a (getD bars key noBar .size) in fixedStep aperture bars key s ≡ settled (fixedVerdict aperture (s .placed) key r) (s .placed) key r
+    pub fixed-asks : (a : ℕ) → s .verdict ≡ Going → requestAt bars key ≡ Fixed a → let r = range a (sizeAt bars key) in fixedStep aperture bars key s ≡ settled (fixedVerdict aperture (s .placed) key r) (s .placed) key r
     unfolding fixedStep
     fixed-asks a e f =
-        onward-going (fixedBar aperture key (getD bars key noBar .size) (getD bars key noBar .request)) (s .placed) (s .verdict) e ∙ rw f
+        onward-going (fixedBar aperture key (sizeAt bars key) (requestAt bars key)) (s .placed) (s .verdict) e ∙ rw f
 
   pub auto-refused : (number k : ℕ) → s .verdict ≡ Refused number k → autoStep aperture bars s ≡ s
   unfolding autoStep
@@ -49,6 +48,6 @@ module _ (aperture : Aperture) (bars : List MemoryBar) (s : Placing) where
   auto-none e f =
       onward-going (λ placed. autoBar aperture bars placed (nextOf bars placed)) (s .placed) (s .verdict) e ∙ rw f (ap (λ (v : Verdict). placing v (s .placed)) (sym e))
 
-  pub auto-next : (key : ℕ) → s .verdict ≡ Going → nextOf bars (s .placed) ≡ next.At key → let size = getD bars key noBar .size in autoStep aperture bars s ≡ fitted (s .placed) key size (lowestOf aperture size (s .placed))
+  pub auto-next : (key : ℕ) → s .verdict ≡ Going → nextOf bars (s .placed) ≡ next.At key → let size = sizeAt bars key in autoStep aperture bars s ≡ fitted (s .placed) key size (lowestOf aperture size (s .placed))
   unfolding autoStep
   auto-next key e f = onward-going (λ placed. autoBar aperture bars placed (nextOf bars placed)) (s .placed) (s .verdict) e ∙ rw f

@@ -1,6 +1,6 @@
--- The turns of the search. Below the next candidate there is no place, and each turn passes one of the placed ranges for good. Assumes nothing.
-use Prim.Native.Nat.{ℕ, zero, suc, _+_, _^_, _<_, _≤_}
-use mathlib.Core.Bool.{Bool, true, false, cond}
+-- The turns of the search. Below the next candidate there is no place, and each turn passes one of the placed ranges for good.
+use Prim.Native.Nat.{ℕ, suc, _^_, _<_, _≤_}
+use mathlib.Core.Bool.{true, false}
 use mathlib.Core.List.{List}
 use mathlib.Core.Logic.{⊎-elim}
 use mathlib.Core.Path.{_≡_, refl}
@@ -8,18 +8,18 @@ use native.Mathlib.Omega.{arith}
 use borrow.Author.Tests.{lt-ltb, le-ltb, ltb-true}
 use lib.Dec.{ltb}
 use lib.ListN.{length, getD}
-use Rattle.word.proofs.Tests.{below-or-not, true-or-false}
+use Rattle.word.proofs.Tests.{below-or-not, both, never}
 use Rattle.bar.specs.Range.{range, endOf, liesIn, meets}
 use Rattle.bar.specs.declared.range.Range.{Range}
 use Rattle.bar.specs.declared.range.Aperture.{Aperture}
 use Rattle.bar.proofs.Ranges.{meets-meeting, meeting-meets, lies-from, lies}
 use Rattle.placement.specs.Place.{noRange, isPlace, Lowest}
-use Rattle.placement.specs.Skip.{aligned, alignedFrom}
+use Rattle.placement.specs.Skip.{multipleFrom, alignedFrom}
 use Rattle.placement.specs.declared.search.Fit.{Fit}
 use Rattle.placement.specs.declared.search.Fit.the-variants.{At, Nothing}
-use Rattle.placement.proofs.Leasts.{both, never}
+use Rattle.placement.proofs.Counts.{counted, counted-less}
 use Rattle.placement.proofs.Places.{place-is, is-place, no-place, place-end, free-of, free-any}
-use Rattle.placement.proofs.Skips.{is-aligned, aligned-is, aligned-from, aligned-multiple}
+use Rattle.placement.proofs.Skips.{is-multiple-from, aligned-is, multiple-from-le, multiple-from-multiple}
 
 -- what holds at a turn: the next candidate is the least multiple from some number on, below which there is no place
 pub record Turn (aperture : Aperture) (size : ℕ) (placed : List Range) (next : Fit) : Type 0 where
@@ -34,9 +34,9 @@ module _ (aperture : Aperture) (size : ℕ) (placed : List Range) where
       record { from = aperture .start; next-is = refl; reached = omega arith; none = λ b h. no-place aperture size placed b (λ p. absurd (omega (arith, lies-from aperture (range b size) (p .within)))) }
 
   -- every place is a multiple from that number on, so not below the candidate
-  turn-from : (next : Fit) (t : Turn aperture size placed next) (b : ℕ) → isPlace aperture size placed b ≡ true → aligned (t .from) size b ≡ true
+  turn-from : (next : Fit) (t : Turn aperture size placed next) (b : ℕ) → isPlace aperture size placed b ≡ true → multipleFrom (t .from) size b ≡ true
   turn-from next t b e =
-      ⊎-elim (λ (h : b < t .from). absurd (both e (t .none b h))) (λ (h : t .from ≤ b). is-aligned (t .from) size b h (place-is aperture size placed b e .aligned)) (below-or-not b (t .from))
+      ⊎-elim (λ (h : b < t .from). absurd (both e (t .none b h))) (λ (h : t .from ≤ b). is-multiple-from (t .from) size b h (place-is aperture size placed b e .aligned)) (below-or-not b (t .from))
 
   turn-below : (start : ℕ) → Turn aperture size placed (At start) → (b : ℕ) → b < start → isPlace aperture size placed b ≡ false
   turn-below start t b h =
@@ -53,13 +53,13 @@ module _ (aperture : Aperture) (size : ℕ) (placed : List Range) where
       ⊎-elim (λ (h : b < start). turn-below start t b h)
       (λ (h : start ≤ b).
       never (isPlace aperture size placed b) (λ e.
-      both (lies aperture (range start size) (omega (arith, t .reached, aligned-from (t .from) size start (aligned-is (t .from) size (At start) (t .next-is) .1))) (omega (arith, place-end aperture size placed b e))) f))
+      both (lies aperture (range start size) (omega (arith, t .reached, multiple-from-le (t .from) size start (aligned-is (t .from) size (At start) (t .next-is) .1))) (omega (arith, place-end aperture size placed b e))) f))
       (below-or-not b start)
 
   pub turn-found : (start : ℕ) → Turn aperture size placed (At start) → liesIn aperture (range start size) ≡ true → ((i : ℕ) → i < length placed → meets (range start size) (getD placed i noRange) ≡ false) → Lowest aperture size placed (At start)
   turn-found start t l f = (
     is-place aperture size placed start
-        (record { aligned = aligned-multiple (t .from) size start (aligned-is (t .from) size (At start) (t .next-is) .1); within = l; free = free-of (range start size) placed (free-any (range start size) placed f) }),
+        (record { aligned = multiple-from-multiple (t .from) size start (aligned-is (t .from) size (At start) (t .next-is) .1); within = l; free = free-of (range start size) placed (free-any (range start size) placed f) }),
     turn-below start t,
   )
 
@@ -70,7 +70,7 @@ module _ (aperture : Aperture) (size : ℕ) (placed : List Range) where
       record {
         from = endOf p;
         next-is = refl;
-        reached = omega (arith, t .reached, k .first-starts, aligned-from (t .from) size start (aligned-is (t .from) size (At start) (t .next-is) .1));
+        reached = omega (arith, t .reached, k .first-starts, multiple-from-le (t .from) size start (aligned-is (t .from) size (At start) (t .next-is) .1));
         none = λ b h.
             ⊎-elim (λ (l : b < start). turn-below start t b l)
             (λ (l : start ≤ b).
@@ -78,40 +78,6 @@ module _ (aperture : Aperture) (size : ℕ) (placed : List Range) where
             both (meeting-meets (range b size) p (record { first-full = k .first-full; second-full = k .second-full; first-starts = h; second-starts = omega (arith, k .second-starts) })) (rw e (q .free i))))
             (below-or-not b start);
       }
-
--- how many numbers below n answer
-unfoldable pub counted : (ℕ → Bool) → ℕ → ℕ
-counted p zero = 0
-counted p (suc n) = cond (p n) (suc (counted p n)) (counted p n)
-
-module _ (p q : ℕ → Bool) (fewer : (i : ℕ) → q i ≡ true → p i ≡ true) where
-  step : (n k : ℕ) (t u : Bool) (a b : ℕ) → p n ≡ t → q n ≡ u → k + a ≤ b → k + cond u (suc a) a ≤ cond t (suc b) b
-  step n k true true a b e f h = omega arith
-  step n k true false a b e f h = omega arith
-  step n k false true a b e f h = absurd (both (fewer n f) e)
-  step n k false false a b e f h = h
-
-  counted-le : (n : ℕ) → 0 + counted q n ≤ counted p n
-  unfolding counted
-  counted-le zero = omega arith
-  counted-le (suc n) = step n 0 (p n) (q n) (counted q n) (counted p n) refl refl (counted-le n)
-
-  pub counted-less : (i n : ℕ) → i < n → p i ≡ true → q i ≡ false → 1 + counted q n ≤ counted p n
-  unfolding counted
-  counted-less i zero h e f = absurd (omega arith)
-  counted-less i (suc n) h e f =
-      ⊎-elim (λ (l : i < n). step n 1 (p n) (q n) (counted q n) (counted p n) refl refl (counted-less i n l e f))
-      (λ (l : n ≤ i). let s : n ≡ i = omega arith in rw (s, e, f) (omega (arith, counted-le i)))
-      (below-or-not i n)
-
-pub counted-most : (p : ℕ → Bool) (n : ℕ) → counted p n ≤ n
-unfolding counted
-counted-most p zero = omega arith
-counted-most p (suc n) =
-    ⊎-elim (λ (t : p n ≡ true). rw t (omega (arith, counted-most p n))) (λ (t : p n ≡ false). rw t (omega (arith, counted-most p n))) (true-or-false (p n))
-
-pub counted-has : (p : ℕ → Bool) (i n : ℕ) → i < n → p i ≡ true → 0 < counted p n
-counted-has p i n h e = omega (arith, counted-less p (λ j. false) (λ j t. absurd (both t refl)) i n h e refl)
 
 -- how many of the placed ranges a candidate has yet to pass, and the turn itself
 abbrev pub left : List Range → Fit → ℕ
@@ -122,6 +88,6 @@ left placed (At start) = suc (counted (λ i. ltb start (endOf (getD placed i noR
 pub left-falls : (placed : List Range) (start size i : ℕ) (p : Range) (next : Fit) → i < length placed → p ≡ getD placed i noRange → meets (range start size) p ≡ true → next ≡ alignedFrom (endOf p) size → left placed next < left placed (At start)
 left-falls placed start size i p Nothing h e m q = omega arith
 left-falls placed start size i p (At a) h e m q =
-    let past : endOf p ≤ a = aligned-from (endOf p) size a (aligned-is (endOf p) size (At a) q .1) in
+    let past : endOf p ≤ a = multiple-from-le (endOf p) size a (aligned-is (endOf p) size (At a) q .1) in
     let met = meets-meeting (range start size) p m in
     omega (arith, counted-less (λ i. ltb start (endOf (getD placed i noRange))) (λ i. ltb a (endOf (getD placed i noRange))) (λ j t. lt-ltb start (endOf (getD placed j noRange)) (omega (arith, met .first-starts, ltb-true a (endOf (getD placed j noRange)) t))) i (length placed) h (lt-ltb start (endOf (getD placed i noRange)) (rw (← e) (met .first-starts))) (le-ltb a (endOf (getD placed i noRange)) (rw (← e) past)))

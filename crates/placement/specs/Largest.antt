@@ -3,10 +3,9 @@ use Prim.Native.Nat.{ℕ, zero, suc}
 use mathlib.Core.Bool.{cond}
 use mathlib.Core.List.{List}
 use lib.Dec.{ltb}
-use lib.ListN.{getD}
-use Rattle.bar.specs.Bar.{noBar}
 use Rattle.bar.specs.declared.range.Range.{Range}
 use Rattle.bar.specs.declared.memory_bar.MemoryBar.{MemoryBar}
+use Rattle.placement.specs.Order.{sizeAt}
 use Rattle.placement.specs.Passes.{waits}
 use Rattle.placement.specs.declared.waiting.Waiting.{Waiting}
 
@@ -15,7 +14,7 @@ waiting key size = record { key = key; size = size }
 
 -- the size that waits at a key, 0 where nothing does
 unfoldable pub waitingAt : List MemoryBar → List Range → ℕ → Waiting
-waitingAt bars placed key = waiting key (cond (waits bars placed key) (getD bars key noBar .size) 0)
+waitingAt bars placed key = waiting key (cond (waits bars placed key) (sizeAt bars key) 0)
 
 abbrev pub larger : Waiting → Waiting → Waiting
 larger first second = cond (ltb (first .size) (second .size)) second first

@@ -1,20 +1,20 @@
 -- The two passes (document 01, "Placement").
 use Prim.Native.Nat.{ℕ, zero, suc}
-use mathlib.Core.Bool.{Bool, true, false, not, _&&_, _||_, cond}
+use mathlib.Core.Bool.{Bool, true, false, not, _&&_, cond}
 use mathlib.Core.List.{List}
 use lib.Dec.{ltb, eqb}
 use lib.ListN.{getD, set, replicate}
-use Rattle.word.specs.Table.{anyBelow}
+use Rattle.refusal.specs.Number.{notMultiple, outsideAperture, overlapsPlaced, noPlace}
+use Rattle.word.specs.Search.{anyBelow, firstOf}
 use Rattle.bar.specs.Range.{range, multiple, liesIn}
-use Rattle.bar.specs.Bar.{noBar}
 use Rattle.bar.specs.declared.range.Range.{Range}
 use Rattle.bar.specs.declared.range.Aperture.{Aperture}
 use Rattle.bar.specs.declared.memory_bar.MemoryBar.{MemoryBar}
 use Rattle.bar.specs.declared.memory_bar.Request.{Request}
 use Rattle.bar.specs.declared.memory_bar.Request.the-variants.{Auto, Fixed}
-use Rattle.placement.specs.Limits.{barLimit}
-use Rattle.placement.specs.Least.{least}
-use Rattle.placement.specs.Place.{noRange, meetsAny, lowestOf}
+use Rattle.placement.specs.Keys.{keyCount}
+use Rattle.placement.specs.Place.{noRange, isPlace, lowestOf}
+use Rattle.placement.specs.Order.{sizeAt, requestAt, comesBefore}
 use Rattle.placement.specs.declared.search.Fit.{Fit}
 use Rattle.placement.specs.declared.search.Fit.the-variants as fit
 use Rattle.placement.specs.declared.automatic.Next.{Next}
@@ -23,25 +23,12 @@ use Rattle.placement.specs.declared.placing.Verdict.{Verdict}
 use Rattle.placement.specs.declared.placing.Verdict.the-variants.{Going, Refused}
 use Rattle.placement.specs.declared.placing.Placing.{Placing}
 
--- the refusals of placement, by document 01's numbers
-abbrev pub notMultiple : ℕ
-notMultiple = 14
-
-abbrev pub outside : ℕ
-outside = 15
-
-abbrev pub overlaps : ℕ
-overlaps = 16
-
-abbrev pub noPlace : ℕ
-noPlace = 17
-
 -- how placing stands: it goes on or is refused, and what each key has been given so far
 abbrev pub placing : Verdict → List Range → Placing
 placing v placed = record { verdict = v; placed = placed }
 
-abbrev pub nothingPlaced : Placing
-nothingPlaced = placing Going (replicate barLimit noRange)
+abbrev pub nothingYet : Placing
+nothingYet = placing Going (replicate keyCount noRange)
 
 -- one step more, unless it was refused before
 abbrev pub onward : (List Range → Placing) → Verdict → List Range → Placing
@@ -53,10 +40,13 @@ abbrev pub settled : Verdict → List Range → ℕ → Range → Placing
 settled Going placed key r = placing Going (set placed key r)
 settled (Refused number k) placed key r = placing (Refused number k) placed
 
--- "checks 14, 15, 16 in that order"
+-- "checks 14, 15, 16 in that order": the number of the first that fails, of a range that is no place
+abbrev pub firstFault : Aperture → Range → ℕ
+firstFault aperture r = cond (multiple r) (cond (liesIn aperture r) overlapsPlaced outsideAperture) notMultiple
+
+-- a fixed BAR goes through exactly if its range is a place
 unfoldable pub fixedVerdict : Aperture → List Range → ℕ → Range → Verdict
-fixedVerdict aperture placed key r =
-    cond (multiple r) (cond (liesIn aperture r) (cond (meetsAny r placed) (Refused overlaps key) Going) (Refused outside key)) (Refused notMultiple key)
+fixedVerdict aperture placed key r = cond (isPlace aperture (r .size) placed (r .start)) Going (Refused (firstFault aperture r) key)
 
 -- the BAR of a key in the first pass: an automatic one waits
 abbrev pub fixedBar : Aperture → ℕ → ℕ → Request → List Range → Placing
@@ -65,11 +55,11 @@ fixedBar aperture key size (Fixed a) placed = settled (fixedVerdict aperture pla
 
 unfoldable pub fixedStep : Aperture → List MemoryBar → ℕ → Placing → Placing
 fixedStep aperture bars key s =
-    onward (fixedBar aperture key (getD bars key noBar .size) (getD bars key noBar .request)) (s .verdict) (s .placed)
+    onward (fixedBar aperture key (sizeAt bars key) (requestAt bars key)) (s .verdict) (s .placed)
 
 -- "Fixed BARs first, by device then slot": after the first n keys
 unfoldable pub fixedAfter : Aperture → List MemoryBar → ℕ → Placing
-fixedAfter aperture bars zero = nothingPlaced
+fixedAfter aperture bars zero = nothingYet
 fixedAfter aperture bars (suc n) = fixedStep aperture bars n (fixedAfter aperture bars n)
 
 abbrev pub isAuto : Request → Bool
@@ -79,20 +69,15 @@ isAuto (Fixed a) = false
 -- whether a key has an automatic BAR that is not placed yet
 unfoldable pub waits : List MemoryBar → List Range → ℕ → Bool
 waits bars placed key =
-    isAuto (getD bars key noBar .request) && (ltb 0 (getD bars key noBar .size) && eqb (getD placed key noRange .size) 0)
-
--- "by size descending, then device, then slot": x comes before y
-unfoldable pub comesBefore : List MemoryBar → ℕ → ℕ → Bool
-comesBefore bars x y =
-    ltb (getD bars y noBar .size) (getD bars x noBar .size) || (eqb (getD bars x noBar .size) (getD bars y noBar .size) && ltb x y)
+    isAuto (requestAt bars key) && (ltb 0 (sizeAt bars key) && eqb (getD placed key noRange .size) 0)
 
 -- the next one waits, and comes before every other that waits
 unfoldable pub isNext : List MemoryBar → List Range → ℕ → Bool
 isNext bars placed x =
-    waits bars placed x && not (anyBelow (λ y. waits bars placed y && (not (eqb y x) && not (comesBefore bars x y))) barLimit)
+    waits bars placed x && not (anyBelow (λ y. waits bars placed y && (not (eqb y x) && not (comesBefore bars x y))) keyCount)
 
 unfoldable pub nextOf : List MemoryBar → List Range → Next
-nextOf bars placed = cond (ltb (least (isNext bars placed) barLimit) barLimit) (next.At (least (isNext bars placed) barLimit)) next.Nothing
+nextOf bars placed = firstOf next.At next.Nothing (isNext bars placed) keyCount
 
 -- an automatic BAR takes the lowest place, or is refused
 abbrev pub fitted : List Range → ℕ → ℕ → Fit → Placing
@@ -101,7 +86,7 @@ fitted placed key size fit.Nothing = placing (Refused noPlace key) placed
 
 abbrev pub autoBar : Aperture → List MemoryBar → List Range → Next → Placing
 autoBar aperture bars placed (next.At key) =
-    fitted placed key (getD bars key noBar .size) (lowestOf aperture (getD bars key noBar .size) placed)
+    fitted placed key (sizeAt bars key) (lowestOf aperture (sizeAt bars key) placed)
 autoBar aperture bars placed next.Nothing = placing Going placed
 
 unfoldable pub autoStep : Aperture → List MemoryBar → Placing → Placing
@@ -114,4 +99,4 @@ autoAfter aperture bars s (suc n) = autoStep aperture bars (autoAfter aperture b
 
 -- both passes: there are no more automatic BARs than keys
 unfoldable pub placingOf : Aperture → List MemoryBar → Placing
-placingOf aperture bars = autoAfter aperture bars (fixedAfter aperture bars barLimit) barLimit
+placingOf aperture bars = autoAfter aperture bars (fixedAfter aperture bars keyCount) keyCount

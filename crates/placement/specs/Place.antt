@@ -1,15 +1,13 @@
 -- A place for a BAR and the lowest one (document 01, "Placement": "Each takes the lowest multiple of its size whose range lies in the aperture and meets nothing placed").
 use Prim.Native.Nat.{ℕ, _+_, _<_}
-use mathlib.Core.Bool.{Bool, true, false, not, _&&_, cond}
+use mathlib.Core.Bool.{Bool, true, false, not, _&&_}
 use mathlib.Core.List.{List}
 use mathlib.Core.Path.{_≡_}
-use lib.Dec.{ltb}
 use lib.ListN.{length, getD}
-use Rattle.word.specs.Table.{anyBelow}
+use Rattle.word.specs.Search.{anyBelow, firstOf}
 use Rattle.bar.specs.Range.{range, multiple, liesIn, meets}
 use Rattle.bar.specs.declared.range.Range.{Range}
 use Rattle.bar.specs.declared.range.Aperture.{Aperture}
-use Rattle.placement.specs.Least.{least}
 use Rattle.placement.specs.declared.search.Fit.{Fit}
 use Rattle.placement.specs.declared.search.Fit.the-variants.{At, Nothing}
 
@@ -21,7 +19,7 @@ noRange = range 0 0
 unfoldable pub meetsAny : Range → List Range → Bool
 meetsAny r placed = anyBelow (λ i. meets r (getD placed i noRange)) (length placed)
 
--- whether `size` addresses from a on are a multiple of the size, in the aperture, and meet nothing placed
+-- whether `size` addresses from a on are a multiple of the size, in the aperture, and meet nothing placed: of an automatic BAR, a fixed one, and one that is moved
 unfoldable pub isPlace : Aperture → ℕ → List Range → ℕ → Bool
 isPlace aperture size placed a = multiple (range a size) && (liesIn aperture (range a size) && not (meetsAny (range a size) placed))
 
@@ -32,7 +30,7 @@ Lowest aperture size placed Nothing = (b : ℕ) → isPlace aperture size placed
 
 -- the least number below n that answers, as an answer
 unfoldable pub leastFit : (ℕ → Bool) → ℕ → Fit
-leastFit p n = cond (ltb (least p n) n) (At (least p n)) Nothing
+leastFit p n = firstOf At Nothing p n
 
 -- the one answer that is so (proofs/Places.antt shows both)
 unfoldable pub lowestOf : Aperture → ℕ → List Range → Fit

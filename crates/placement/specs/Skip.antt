@@ -12,12 +12,12 @@ use Rattle.placement.specs.declared.conflict.Conflict.{Conflict}
 use Rattle.placement.specs.declared.conflict.Conflict.the-variants.{With, Free}
 
 -- whether a is a multiple of size, from `from` on
-unfoldable pub aligned : ℕ → ℕ → ℕ → Bool
-aligned from size a = leb from a && multiple (range a size)
+unfoldable pub multipleFrom : ℕ → ℕ → ℕ → Bool
+multipleFrom from size a = leb from a && multiple (range a size)
 
 -- the least such number of 64 bits
 unfoldable pub alignedFrom : ℕ → ℕ → Fit
-alignedFrom from size = leastFit (aligned from size) (2 ^ 64)
+alignedFrom from size = leastFit (multipleFrom from size) (2 ^ 64)
 
 -- a conflict known so far and one more range: of two that r meets, the one that starts lower
 unfoldable pub lower : Range → Conflict → Range → Conflict

@@ -1,27 +1,44 @@
 // What placement answers.
 ghost use mathlib.Core.Path.{_≡_};
-ghost use Rattle.placement.specs.Answer.{addressesOf, deviceOf, answered, placementOf};
+ghost use Rattle.placement.specs.Answer.{placementNumber, addressesOf, deviceOf, answered, placementOf};
 use crate::automatic::place_automatic;
 use crate::declared_bars::DeclaredBars;
 use crate::declared_bars::collect_placements;
 use crate::fixed::place_fixed;
-use crate::limits::BAR_LIMIT;
-use crate::limits::FUNCTION_LIMIT;
-use crate::limits::SLOTS;
+use crate::keys::KEY_COUNT;
 use crate::placing::Placing;
 use crate::placing::Verdict;
+use address::limits::BAR_SLOTS;
+use address::limits::FUNCTION_LIMIT;
 use bar::Aperture;
 use bar::Range;
+use refusal::ACCEPTED;
 
 pub enum PlacementAnswer {
     Placed,
     Refused { number: u8, device: u8, slot: u8 },
 }
 
+impl PlacementAnswer {
+    // Document 01's number for the answer.
+    pub fn number(self) -> u8
+        ensures { λ r. ⌜ r ≡ placementNumber self ⌝ }
+    {
+        match self {
+            PlacementAnswer::Placed => ACCEPTED,
+            PlacementAnswer::Refused {
+                number,
+                device: _,
+                slot: _,
+            } => number,
+        }
+    }
+}
+
 // The answer, and the address of each key: 0 where there is no BAR, and all 0 where it is refused.
 pub struct Placement {
     pub answer: PlacementAnswer,
-    pub addresses: [u64; BAR_LIMIT],
+    pub addresses: [u64; KEY_COUNT],
 }
 
 fn device_of(declared: DeclaredBars, index: usize) -> u8
@@ -35,12 +52,12 @@ fn device_of(declared: DeclaredBars, index: usize) -> u8
     0
 }
 
-fn addresses_of(placed: [Range; BAR_LIMIT]) -> [u64; BAR_LIMIT]
+fn addresses_of(placed: [Range; KEY_COUNT]) -> [u64; KEY_COUNT]
     ensures { λ r. ⌜ r ≡ addressesOf placed ⌝ }
 {
-    let mut addresses = [0u64; BAR_LIMIT];
+    let mut addresses = [0u64; KEY_COUNT];
     let mut key = 0;
-    while key < BAR_LIMIT {
+    while key < KEY_COUNT {
         let range = placed[key];
         addresses[key] = range.start;
         key += 1;
@@ -63,10 +80,10 @@ fn answer_of(declared: DeclaredBars, state: Placing) -> Placement
         Verdict::Refused { number, key } => Placement {
             answer: PlacementAnswer::Refused {
                 number,
-                device: device_of(declared, key / SLOTS),
-                slot: (key % SLOTS) as u8,
+                device: device_of(declared, key / BAR_SLOTS),
+                slot: (key % BAR_SLOTS) as u8,
             },
-            addresses: [0u64; BAR_LIMIT],
+            addresses: [0u64; KEY_COUNT],
         },
     }
 }

@@ -1,12 +1,11 @@
 // The second pass: automatic BARs, by size descending, then device, then slot.
 ghost use mathlib.Core.Path.{_≡_};
 ghost use Prim.Native.Nat.{_<_};
-ghost use Rattle.placement.specs.Limits.{barLimit};
+ghost use Rattle.placement.specs.Keys.{keyCount};
 ghost use Rattle.placement.specs.Place.{lowestOf};
 ghost use Rattle.placement.specs.Passes.{nextOf, fitted, autoStep, autoAfter};
-use crate::limits::BAR_LIMIT;
+use crate::keys::KEY_COUNT;
 use crate::placing::Placing;
-use crate::placing::REFUSED_NO_PLACE;
 use crate::placing::Verdict;
 use crate::placing::settle;
 use crate::search::Fit;
@@ -15,6 +14,7 @@ use crate::waiting::largest_waiting;
 use bar::Aperture;
 use bar::MemoryBar;
 use bar::Range;
+use refusal::NO_PLACE;
 
 pub(crate) enum Next {
     At(usize),
@@ -22,7 +22,7 @@ pub(crate) enum Next {
 }
 
 // The BAR that comes first among those that wait.
-fn next_automatic(bars: [MemoryBar; BAR_LIMIT], placed: [Range; BAR_LIMIT]) -> Next
+fn next_automatic(bars: [MemoryBar; KEY_COUNT], placed: [Range; KEY_COUNT]) -> Next
     ensures { λ r. ⌜ r ≡ nextOf bars placed ⌝ }
 {
     let largest = largest_waiting(bars, placed);
@@ -33,14 +33,14 @@ fn next_automatic(bars: [MemoryBar; BAR_LIMIT], placed: [Range; BAR_LIMIT]) -> N
 }
 
 // Gives a key the lowest place for its size.
-fn place_lowest(aperture: Aperture, size: u64, placed: [Range; BAR_LIMIT], key: usize) -> Placing
-    requires { ⌜ key < barLimit ⌝ }
+fn place_lowest(aperture: Aperture, size: u64, placed: [Range; KEY_COUNT], key: usize) -> Placing
+    requires { ⌜ key < keyCount ⌝ }
     ensures { λ r. ⌜ r ≡ fitted placed key size (lowestOf aperture size placed) ⌝ }
 {
     match first_fit(aperture, size, placed) {
         Fit::Nothing => Placing {
             verdict: Verdict::Refused {
-                number: REFUSED_NO_PLACE,
+                number: NO_PLACE,
                 key,
             },
             placed,
@@ -50,7 +50,7 @@ fn place_lowest(aperture: Aperture, size: u64, placed: [Range; BAR_LIMIT], key: 
 }
 
 // The next BAR, if one waits.
-fn automatic_step(aperture: Aperture, bars: [MemoryBar; BAR_LIMIT], state: Placing) -> Placing
+fn automatic_step(aperture: Aperture, bars: [MemoryBar; KEY_COUNT], state: Placing) -> Placing
     ensures { λ r. ⌜ r ≡ autoStep aperture bars state ⌝ }
 {
     let verdict = state.verdict;
@@ -72,14 +72,14 @@ fn automatic_step(aperture: Aperture, bars: [MemoryBar; BAR_LIMIT], state: Placi
 // There are no more automatic BARs than keys.
 pub(crate) fn place_automatic(
     aperture: Aperture,
-    bars: [MemoryBar; BAR_LIMIT],
+    bars: [MemoryBar; KEY_COUNT],
     state: Placing,
 ) -> Placing
-    ensures { λ r. ⌜ r ≡ autoAfter aperture bars state barLimit ⌝ }
+    ensures { λ r. ⌜ r ≡ autoAfter aperture bars state keyCount ⌝ }
 {
     let mut now = state;
     let mut turn = 0;
-    while turn < BAR_LIMIT {
+    while turn < KEY_COUNT {
         now = automatic_step(aperture, bars, now);
         turn += 1;
     }

@@ -1,8 +1,8 @@
 // The placed range that a candidate runs into.
 ghost use mathlib.Core.Path.{_≡_};
-ghost use Rattle.placement.specs.Limits.{barLimit};
+ghost use Rattle.placement.specs.Keys.{keyCount};
 ghost use Rattle.placement.specs.Skip.{lower, conflictIn};
-use crate::limits::BAR_LIMIT;
+use crate::keys::KEY_COUNT;
 use bar::Range;
 
 pub(crate) enum Conflict {
@@ -29,12 +29,12 @@ fn lower_of(range: Range, known: Conflict, other: Range) -> Conflict
 }
 
 // Of the placed ranges that `range` meets, the one that starts lowest.
-pub(crate) fn conflict_with(range: Range, placed: [Range; BAR_LIMIT]) -> Conflict
-    ensures { λ r. ⌜ r ≡ conflictIn range placed barLimit ⌝ }
+pub(crate) fn conflict_with(range: Range, placed: [Range; KEY_COUNT]) -> Conflict
+    ensures { λ r. ⌜ r ≡ conflictIn range placed keyCount ⌝ }
 {
     let mut known = Conflict::Free;
     let mut i = 0;
-    while i < BAR_LIMIT {
+    while i < KEY_COUNT {
         let other = placed[i];
         known = lower_of(range, known, other);
         i += 1;

@@ -3,18 +3,18 @@ ghost use mathlib.Core.Path.{_≡_};
 ghost use Prim.Native.Nat.{_<_};
 ghost use lib.ListN.{replicate};
 ghost use Rattle.bar.specs.Bar.{noBar};
-ghost use Rattle.placement.specs.Limits.{barLimit};
-ghost use Rattle.placement.specs.Keys.{barsIn, slotBar, barAt, barsOf};
-use crate::limits::BAR_LIMIT;
-use crate::limits::FUNCTION_LIMIT;
-use crate::limits::SLOTS;
+ghost use Rattle.placement.specs.Keys.{keyCount};
+ghost use Rattle.placement.specs.Keys.{barsIn, slotBar, declaredAt, barsOf};
+use crate::keys::KEY_COUNT;
+use address::limits::BAR_SLOTS;
+use address::limits::FUNCTION_LIMIT;
 use bar::MemoryBar;
 
 // The BARs of one function, the first `count` of the array, in any order of slots.
 pub struct FunctionBars {
     pub device: u8,
     pub count: usize,
-    pub bars: [MemoryBar; SLOTS],
+    pub bars: [MemoryBar; BAR_SLOTS],
 }
 
 // Those of all functions, the first `count` of the array, in ascending order of devices.
@@ -26,10 +26,10 @@ pub struct DeclaredBars {
 fn bars_in(function: FunctionBars) -> usize
     ensures { λ r. ⌜ r ≡ barsIn function ⌝ }
 {
-    if function.count < SLOTS {
+    if function.count < BAR_SLOTS {
         return function.count;
     }
-    SLOTS
+    BAR_SLOTS
 }
 
 // The first BAR that a function has at a slot.
@@ -51,32 +51,32 @@ fn bar_in_slot(function: FunctionBars, slot: usize) -> MemoryBar
 }
 
 fn bar_at(declared: DeclaredBars, key: usize) -> MemoryBar
-    requires { ⌜ key < barLimit ⌝ }
-    ensures { λ r. ⌜ r ≡ barAt declared key ⌝ }
+    requires { ⌜ key < keyCount ⌝ }
+    ensures { λ r. ⌜ r ≡ declaredAt declared key ⌝ }
 {
-    let i = key / SLOTS;
+    let i = key / BAR_SLOTS;
     if i < declared.count {
         let functions = declared.functions;
         let function = functions[i];
-        return bar_in_slot(function, key % SLOTS);
+        return bar_in_slot(function, key % BAR_SLOTS);
     }
     MemoryBar::none()
 }
 
-fn no_bars() -> [MemoryBar; BAR_LIMIT]
-    ensures { λ r. ⌜ r ≡ replicate barLimit noBar ⌝ }
+fn no_bars() -> [MemoryBar; KEY_COUNT]
+    ensures { λ r. ⌜ r ≡ replicate keyCount noBar ⌝ }
 {
     let none = MemoryBar::none();
-    [none; BAR_LIMIT]
+    [none; KEY_COUNT]
 }
 
 // All BARs by key.
-pub(crate) fn collect_placements(declared: DeclaredBars) -> [MemoryBar; BAR_LIMIT]
+pub(crate) fn collect_placements(declared: DeclaredBars) -> [MemoryBar; KEY_COUNT]
     ensures { λ r. ⌜ r ≡ barsOf declared ⌝ }
 {
     let mut bars = no_bars();
     let mut key = 0;
-    while key < BAR_LIMIT {
+    while key < KEY_COUNT {
         let bar = bar_at(declared, key);
         bars[key] = bar;
         key += 1;

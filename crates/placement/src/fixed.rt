@@ -1,26 +1,26 @@
 // The first pass: fixed BARs, by device then slot.
 ghost use mathlib.Core.Path.{_≡_};
 ghost use Prim.Native.Nat.{_<_};
-ghost use Rattle.placement.specs.Limits.{barLimit};
+ghost use Rattle.placement.specs.Keys.{keyCount};
 ghost use Rattle.placement.specs.Passes.{fixedVerdict, fixedStep, fixedAfter};
 use crate::conflict::Conflict;
 use crate::conflict::conflict_with;
-use crate::limits::BAR_LIMIT;
+use crate::keys::KEY_COUNT;
 use crate::placing::Placing;
-use crate::placing::REFUSED_NOT_MULTIPLE;
-use crate::placing::REFUSED_OUTSIDE;
-use crate::placing::REFUSED_OVERLAP;
 use crate::placing::Verdict;
 use crate::placing::settle;
 use bar::Aperture;
 use bar::MemoryBar;
 use bar::Range;
 use bar::Request;
+use refusal::NOT_MULTIPLE;
+use refusal::OUTSIDE_APERTURE;
+use refusal::OVERLAPS_PLACED;
 
 // The checks of a fixed range, in order.
 fn checked_bar_range(
     aperture: Aperture,
-    placed: [Range; BAR_LIMIT],
+    placed: [Range; KEY_COUNT],
     key: usize,
     range: Range,
 ) -> Verdict
@@ -34,19 +34,19 @@ fn checked_bar_range(
                 Conflict::Free => return Verdict::Going,
                 Conflict::With(_) => {
                     return Verdict::Refused {
-                        number: REFUSED_OVERLAP,
+                        number: OVERLAPS_PLACED,
                         key,
                     };
                 }
             }
         }
         return Verdict::Refused {
-            number: REFUSED_OUTSIDE,
+            number: OUTSIDE_APERTURE,
             key,
         };
     }
     Verdict::Refused {
-        number: REFUSED_NOT_MULTIPLE,
+        number: NOT_MULTIPLE,
         key,
     }
 }
@@ -54,11 +54,11 @@ fn checked_bar_range(
 // The BAR of one key: a fixed one is checked and placed.
 fn fixed_step(
     aperture: Aperture,
-    bars: [MemoryBar; BAR_LIMIT],
+    bars: [MemoryBar; KEY_COUNT],
     key: usize,
     state: Placing,
 ) -> Placing
-    requires { ⌜ key < barLimit ⌝ }
+    requires { ⌜ key < keyCount ⌝ }
     ensures { λ r. ⌜ r ≡ fixedStep aperture bars key state ⌝ }
 {
     let verdict = state.verdict;
@@ -83,12 +83,12 @@ fn fixed_step(
     }
 }
 
-pub(crate) fn place_fixed(aperture: Aperture, bars: [MemoryBar; BAR_LIMIT]) -> Placing
-    ensures { λ r. ⌜ r ≡ fixedAfter aperture bars barLimit ⌝ }
+pub(crate) fn place_fixed(aperture: Aperture, bars: [MemoryBar; KEY_COUNT]) -> Placing
+    ensures { λ r. ⌜ r ≡ fixedAfter aperture bars keyCount ⌝ }
 {
     let mut state = Placing::new();
     let mut key = 0;
-    while key < BAR_LIMIT {
+    while key < KEY_COUNT {
         state = fixed_step(aperture, bars, key, state);
         key += 1;
     }

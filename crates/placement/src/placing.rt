@@ -1,18 +1,10 @@
 // How placing stands between two steps.
 ghost use mathlib.Core.Path.{_≡_};
 ghost use Prim.Native.Nat.{_<_};
-ghost use Rattle.placement.specs.Limits.{barLimit};
-ghost use Rattle.placement.specs.Passes.{nothingPlaced, settled};
-use crate::limits::BAR_LIMIT;
+ghost use Rattle.placement.specs.Keys.{keyCount};
+ghost use Rattle.placement.specs.Passes.{nothingYet, settled};
+use crate::keys::KEY_COUNT;
 use bar::Range;
-
-pub(crate) const REFUSED_NOT_MULTIPLE: u8 = 14;
-
-pub(crate) const REFUSED_OUTSIDE: u8 = 15;
-
-pub(crate) const REFUSED_OVERLAP: u8 = 16;
-
-pub(crate) const REFUSED_NO_PLACE: u8 = 17;
 
 pub(crate) enum Verdict {
     Going,
@@ -22,18 +14,18 @@ pub(crate) enum Verdict {
 // What each key has been given so far; an empty range is nothing yet.
 pub(crate) struct Placing {
     pub verdict: Verdict,
-    pub placed: [Range; BAR_LIMIT],
+    pub placed: [Range; KEY_COUNT],
 }
 
 impl Placing {
     // Nothing is placed.
     pub(crate) fn new() -> Placing
-        ensures { λ r. ⌜ r ≡ nothingPlaced ⌝ }
+        ensures { λ r. ⌜ r ≡ nothingYet ⌝ }
     {
         let none = Range { start: 0, size: 0 };
         Placing {
             verdict: Verdict::Going,
-            placed: [none; BAR_LIMIT],
+            placed: [none; KEY_COUNT],
         }
     }
 }
@@ -41,11 +33,11 @@ impl Placing {
 // Gives a key its range, unless the verdict is a refusal.
 pub(crate) fn settle(
     verdict: Verdict,
-    placed: [Range; BAR_LIMIT],
+    placed: [Range; KEY_COUNT],
     key: usize,
     range: Range,
 ) -> Placing
-    requires { ⌜ key < barLimit ⌝ }
+    requires { ⌜ key < keyCount ⌝ }
     ensures { λ r. ⌜ r ≡ settled verdict placed key range ⌝ }
 {
     match verdict {

@@ -5,10 +5,11 @@ ghost use Rattle.placement.specs.Place.{Lowest};
 ghost use Rattle.placement.specs.Skip.{alignedFrom};
 use crate::conflict::Conflict;
 use crate::conflict::conflict_with;
-use crate::limits::BAR_LIMIT;
-use crate::limits::LAST_ADDRESS;
+use crate::keys::KEY_COUNT;
 use bar::Aperture;
 use bar::Range;
+
+const LAST_ADDRESS: u64 = 0xffff_ffff_ffff_ffff;
 
 pub enum Fit {
     At(u64),
@@ -47,7 +48,7 @@ fn align_past(range: Range, size: u64) -> Fit
 }
 
 // The lowest place for `size` addresses. Each turn passes one of the placed ranges for good.
-pub fn first_fit(aperture: Aperture, size: u64, placed: [Range; BAR_LIMIT]) -> Fit
+pub fn first_fit(aperture: Aperture, size: u64, placed: [Range; KEY_COUNT]) -> Fit
     ensures { λ r. ⌜ Lowest aperture size placed r ⌝ }
 {
     let mut next = align_up(aperture.start, size);

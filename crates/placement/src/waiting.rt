@@ -1,9 +1,9 @@
 // The automatic BARs that wait for a place.
 ghost use mathlib.Core.Path.{_≡_};
 ghost use Prim.Native.Nat.{_<_};
-ghost use Rattle.placement.specs.Limits.{barLimit};
+ghost use Rattle.placement.specs.Keys.{keyCount};
 ghost use Rattle.placement.specs.Largest.{waitingAt, larger, largestIn};
-use crate::limits::BAR_LIMIT;
+use crate::keys::KEY_COUNT;
 use bar::MemoryBar;
 use bar::Range;
 use bar::Request;
@@ -14,8 +14,8 @@ pub(crate) struct Waiting {
     pub size: u64,
 }
 
-fn waiting_at(bars: [MemoryBar; BAR_LIMIT], placed: [Range; BAR_LIMIT], key: usize) -> Waiting
-    requires { ⌜ key < barLimit ⌝ }
+fn waiting_at(bars: [MemoryBar; KEY_COUNT], placed: [Range; KEY_COUNT], key: usize) -> Waiting
+    requires { ⌜ key < keyCount ⌝ }
     ensures { λ r. ⌜ r ≡ waitingAt bars placed key ⌝ }
 {
     let bar = bars[key];
@@ -46,12 +46,12 @@ fn larger_of(first: Waiting, second: Waiting) -> Waiting
 }
 
 // The largest that waits, and of equal ones the one of the lowest key.
-pub(crate) fn largest_waiting(bars: [MemoryBar; BAR_LIMIT], placed: [Range; BAR_LIMIT]) -> Waiting
-    ensures { λ r. ⌜ r ≡ largestIn bars placed barLimit ⌝ }
+pub(crate) fn largest_waiting(bars: [MemoryBar; KEY_COUNT], placed: [Range; KEY_COUNT]) -> Waiting
+    ensures { λ r. ⌜ r ≡ largestIn bars placed keyCount ⌝ }
 {
     let mut largest = Waiting { key: 0, size: 0 };
     let mut key = 0;
-    while key < BAR_LIMIT {
+    while key < KEY_COUNT {
         let here = waiting_at(bars, placed, key);
         largest = larger_of(largest, here);
         key += 1;

@@ -11,7 +11,7 @@ use lib.Pow.{pow-add}
 use lib.ListN.{length, getD, take, drop, length-drop, drop-of-length-le}
 use lib.Seq.{drop-cons, getD-drop, take-length, take-all, take-nil}
 use Rattle.word.specs.Table.{table}
-use Rattle.word.specs.Number.{number, byteOf, bytesOf, readAt}
+use Rattle.word.specs.Number.{number, partOf, byteOf, bytesOf, readAt}
 use Rattle.word.proofs.Tests.{below-or-not}
 use Rattle.word.proofs.Tables.{table-ext, length-table, getD-table}
 
@@ -44,12 +44,12 @@ take-least l n =
     (λ (h : length l ≤ n). rw (min-eq-right {n = length l} {m = n} h, take-length, take-all n l h))
     (below-or-not n (length l))
 
-pub read-part : (l : List ℕ) (o w from many : ℕ) → from ≡ min o (length l) → many ≡ min (min w 8) (length l - from) → number (take many (drop from l)) ≡ readAt l o w
-unfolding readAt
-read-part l o w from many e f =
+pub part-there : (l : List ℕ) (o w from to : ℕ) → from ≡ min o (length l) → to ≡ from + min w (length l - from) → take (to - from) (drop from l) ≡ partOf l o w
+part-there l o w from to e f =
+    let m : to - from ≡ min w (length l - from) = omega arith in
     ⊎-elim (λ (h : o < length l).
     let q : from ≡ o = omega arith in
-    rw (f, q, ← length-drop o l, take-least (drop o l) (min w 8)))
+    rw (m, q, ← length-drop o l, take-least (drop o l) w))
     (λ (h : length l ≤ o).
     let q : length l ≤ from = omega arith in
     rw (drop-of-length-le l q, drop-of-length-le l h, take-nil, take-nil))

@@ -19,9 +19,13 @@ byteOf v k = v / 256 ^ k % 256
 unfoldable pub bytesOf : ℕ → ℕ → List ℕ
 bytesOf w v = table w (byteOf v)
 
+-- as many bytes of a list as it has, of the `width` from `offset` on
+abbrev pub partOf : List ℕ → ℕ → ℕ → List ℕ
+partOf bytes offset width = take width (drop offset bytes)
+
 -- the number in `width` bytes from `offset` on: of those bytes, as many as the list has, and no more than the eight of the widest access
 unfoldable pub readAt : List ℕ → ℕ → ℕ → ℕ
-readAt bytes offset width = number (take (min width 8) (drop offset bytes))
+readAt bytes offset width = number (partOf bytes offset (min width 8))
 
 -- byte k of a dword with `width` bytes of a value in place of its own from `lane` on
 abbrev pub mergedByte : ℕ → ℕ → ℕ → ℕ → ℕ → ℕ

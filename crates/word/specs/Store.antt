@@ -27,3 +27,10 @@ putByte bytes offset width value j = cond (covers offset width j) (byteOf value 
 
 unfoldable pub putOf : List ℕ → ℕ → ℕ → ℕ → List ℕ
 putOf bytes offset width value = table (length bytes) (putByte bytes offset width value)
+
+-- the bytes after the first w of a list were laid over them from `offset` on; what would lie past the end is dropped
+abbrev pub laidByte : List ℕ → ℕ → ℕ → List ℕ → ℕ → ℕ
+laidByte bytes offset w part j = cond (covers offset w j) (getD part (j - offset) 0) (getD bytes j 0)
+
+unfoldable pub laidOver : List ℕ → ℕ → ℕ → List ℕ → List ℕ
+laidOver bytes offset w part = table (length bytes) (laidByte bytes offset w part)

@@ -15,6 +15,8 @@ pub use masked::store;
 pub use masked::stored_byte;
 pub use number::byte_at;
 pub use number::merged;
+pub use number::part;
 pub use number::read;
+pub use plain::lay;
 pub use plain::put;
 pub use width::width_ok;

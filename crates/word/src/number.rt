@@ -2,7 +2,7 @@
 ghost use mathlib.Core.Path.{_≡_};
 ghost use Prim.Native.Nat.{_≤_};
 ghost use lib.ListN.{length, getD};
-ghost use Rattle.word.specs.Number.{number, readAt, bytesOf, merge};
+ghost use Rattle.word.specs.Number.{number, partOf, readAt, bytesOf, merge};
 use crate::bounds::at_most;
 use crate::masked::store;
 
@@ -36,13 +36,20 @@ fn spelt(bytes: &[u8]) -> u64
     n
 }
 
+// As much as there is of the part of `width` bytes from `offset` on.
+pub fn part<'a>(bytes: &'a [u8], offset: usize, width: usize) -> &'a [u8]
+    ensures { λ r. ⌜ now r ≡ partOf (now (bytes .entry)) offset width ⌝ }
+{
+    let from = at_most(offset, bytes.len());
+    let to = from + at_most(width, bytes.len() - from);
+    &bytes[from..to]
+}
+
 // The number in `width` bytes, eight at most, from `offset` on.
 pub fn read(bytes: &[u8], offset: usize, width: usize) -> u64
     ensures { λ r. ⌜ r ≡ readAt (now (bytes .entry)) offset width ⌝ }
 {
-    let from = at_most(offset, bytes.len());
-    let many = at_most(at_most(width, 8), bytes.len() - from);
-    spelt(&bytes[from..from + many])
+    spelt(part(bytes, offset, at_most(width, 8)))
 }
 
 // The four bytes of a dword.

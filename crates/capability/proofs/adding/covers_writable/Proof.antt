@@ -1,12 +1,12 @@
--- `covers_writable`: none of the first i bytes of the region is writable. Assumes nothing.
-use Prim.Native.Nat.{ℕ, _-_, _≤_}
+-- `covers_writable`: none of the first i bytes of the region is writable.
+use Prim.Native.Nat.{_-_, _≤_}
 use mathlib.Core.Bool.{false}
 use mathlib.Core.Path.{_≡_, sym, _∙_}
 use native.Mathlib.Omega.{arith}
 use borrow.Author.Count.{falls}
 use borrow.Author.Needs.{needs}
-use Rattle.capability.specs.Effect.{coversWritable}
-use Rattle.capability.proofs.Effects.{writable-none, writable-more, writable-here}
+use Rattle.capability.specs.BadEffect.{coversWritable}
+use Rattle.capability.proofs.BadEffects.{writable-none, writable-more, writable-here}
 use Rattle.capability.proofs.adding.covers_writable.Statement.{statement}
 use Rattle.capability.proofs.adding.covers_writable.Tie as tie
 

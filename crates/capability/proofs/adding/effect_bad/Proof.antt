@@ -1,14 +1,13 @@
--- `effect_bad` tries the five reasons in turn. Assumes nothing.
+-- `effect_bad` tries the five reasons in turn.
 use Prim.Native.Nat.{_+_, _<_, _≤_}
-use mathlib.Core.Bool.{Bool}
 use mathlib.Core.Path.{_≡_, sym, ap, _∙_}
-use native.Mathlib.Omega.{arith}
 use borrow.Author.Needs.{needs}
 use Rattle.capability.specs.Size.{headerSize}
-use Rattle.capability.specs.Effect.{overlapsEarlier}
 use Rattle.capability.specs.Declaration.{effectCountOf, lengthAt, latest}
-use Rattle.capability.proofs.Effects.{earlier-has}
-use Rattle.capability.proofs.Faults.{Fault, fault-bad, bad-last}
+use Rattle.capability.specs.BadEffect.{overlapsEarlier}
+use Rattle.capability.specs.Fault.{Fault}
+use Rattle.capability.proofs.BadEffects.{earlier-has}
+use Rattle.capability.proofs.Faults.{fault-bad, bad-last}
 use Rattle.capability.proofs.adding.effect_bad.Statement.{statement}
 use Rattle.capability.proofs.adding.effect_bad.Tie as tie
 

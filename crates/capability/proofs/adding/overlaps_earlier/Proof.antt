@@ -1,12 +1,12 @@
--- `overlaps_earlier`: none of the first i effects overlaps. Assumes nothing.
-use Prim.Native.Nat.{ℕ, _-_, _≤_}
+-- `overlaps_earlier`: none of the first i effects overlaps.
+use Prim.Native.Nat.{_-_, _≤_}
 use mathlib.Core.Bool.{false}
 use mathlib.Core.Path.{_≡_, sym, _∙_}
 use native.Mathlib.Omega.{arith}
 use borrow.Author.Count.{falls}
 use borrow.Author.Needs.{needs}
-use Rattle.capability.specs.Effect.{overlapsEarlier}
-use Rattle.capability.proofs.Effects.{earlier-none, earlier-more, earlier-here}
+use Rattle.capability.specs.BadEffect.{overlapsEarlier}
+use Rattle.capability.proofs.BadEffects.{earlier-none, earlier-more, earlier-here}
 use Rattle.capability.proofs.adding.overlaps_earlier.Statement.{statement}
 use Rattle.capability.proofs.adding.overlaps_earlier.Tie as tie
 

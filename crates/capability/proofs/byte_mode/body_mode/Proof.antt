@@ -1,4 +1,4 @@
--- `body_mode` goes by the owner, then by the mask. Assumes nothing.
+-- `body_mode` goes by the owner, then by the mask.
 use borrow.Author.Tests.{eq-eqb, ne-eqb}
 use borrow.Author.Needs.{needs}
 use Rattle.capability.proofs.byte_mode.body_mode.Statement.{statement}

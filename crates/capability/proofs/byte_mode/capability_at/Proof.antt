@@ -1,15 +1,14 @@
--- `capability_at` passes every capability that does not cover the byte. Assumes nothing.
+-- `capability_at` passes every capability that does not cover the byte.
 use Prim.Native.Nat.{_≤_, _-_}
 use mathlib.Core.Bool.{false}
 use mathlib.Core.Path.{_≡_, sym, _∙_}
 use native.Mathlib.Omega.{arith}
 use borrow.Author.Needs.{needs}
 use lib.ListN.{length}
-use Rattle.word.specs.Table.{anyBelow}
-use Rattle.word.proofs.Tables.{any-none, any-more}
+use Rattle.word.specs.Search.{anyBelow}
+use Rattle.word.proofs.Searches.{any-none, any-more, any-never}
 use Rattle.capability.specs.Owner.{capabilitiesOf}
 use Rattle.capability.specs.Mode.{inCapability}
-use Rattle.capability.proofs.Firsts.{any-never}
 use Rattle.capability.proofs.Modes.{holder-is, outside-nobody}
 use Rattle.capability.proofs.byte_mode.capability_at.Statement.{statement}
 use Rattle.capability.proofs.byte_mode.capability_at.Tie as tie

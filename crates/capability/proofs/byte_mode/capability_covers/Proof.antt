@@ -1,8 +1,8 @@
--- `capability_covers` asks for the header and the body together. Assumes nothing.
+-- `capability_covers` asks for the header and the body together.
 use mathlib.Core.Path.{_∙_}
+use borrow.Author.Needs.{needs}
 use Rattle.capability.specs.Owner.{spanOf}
 use Rattle.capability.specs.Mode.{inCapability}
-use borrow.Author.Needs.{needs}
 use Rattle.capability.proofs.byte_mode.capability_covers.Statement.{statement}
 use Rattle.capability.proofs.byte_mode.capability_covers.Tie as tie
 

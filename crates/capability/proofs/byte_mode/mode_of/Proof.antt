@@ -1,11 +1,11 @@
--- `mode_of` goes by the capability that holds the byte, its header, and its body. Assumes nothing.
+-- `mode_of` goes by the capability that holds the byte, its header, and its body.
 use mathlib.Core.Bool.{Bool, true, false}
 use mathlib.Core.Path.{_≡_, sym, _∙_}
-use Rattle.word.specs.Number.{covers}
-use Rattle.capability.specs.Size.{headerSize}
-use Rattle.capability.specs.Owner.{spanOf, capabilityAt}
-use Rattle.capability.proofs.Modes.{mode-outside, mode-header, mode-body}
 use borrow.Author.Needs.{needs}
+use Rattle.word.specs.Interval.{covers}
+use Rattle.capability.specs.Size.{headerSize}
+use Rattle.capability.specs.Owner.{spanOf, startOf}
+use Rattle.capability.proofs.Modes.{mode-outside, mode-header, mode-body}
 use Rattle.capability.proofs.byte_mode.mode_of.Statement.{statement}
 use Rattle.capability.proofs.byte_mode.mode_of.Tie as tie
 
@@ -31,7 +31,7 @@ covered-requires : tie.Need-covered-requires
 covered-requires c κs = search needs
 
 -- whether the byte is one of the header
-header : (t : Bool) (c : tie.After-covered) → c .covered .result ≡ t → covers (capabilityAt (c .before .before .before .before .before .before .before .before .before .args .placed) (c .before .before .before .before .i .given .0 .0) .offset .0) headerSize (c .before .before .before .before .before .before .before .before .before .args .offset .0) ≡ t
+header : (t : Bool) (c : tie.After-covered) → c .covered .result ≡ t → covers (startOf (c .before .before .before .before .before .before .before .before .before .args .placed) (c .before .before .before .before .i .given .0 .0)) headerSize (c .before .before .before .before .before .before .before .before .before .args .offset .0) ≡ t
 unfolding spanOf
 header t c e = rw (← c .before .before .before .before .before .before .before .value .ensures) (rw (c .before .before .span-at .ensures) at (sym (c .covered .ensures) ∙ e))
 

@@ -1,4 +1,4 @@
--- `access_allows` tests the number for both first, then the one of the direction. Assumes nothing.
+-- `access_allows` tests the number for both first, then the one of the direction.
 use borrow.Author.Tests.{eq-eqb, ne-eqb}
 use Rattle.capability.specs.Touch.{allows}
 use Rattle.capability.proofs.effect_access.access_allows.Statement.{statement}

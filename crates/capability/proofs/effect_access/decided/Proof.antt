@@ -1,10 +1,10 @@
--- `decided` answers where both tests hold. Assumes nothing.
+-- `decided` answers where both tests hold.
 use mathlib.Core.Bool.{Bool, true, false}
 use mathlib.Core.Path.{_≡_, sym, _∙_}
+use borrow.Author.Needs.{needs}
 use Rattle.capability.specs.Owner.{effectAt, holds, spanOf}
 use Rattle.capability.specs.Touch.{allows}
 use Rattle.capability.proofs.Touches.{decision-inside, decision-outside, decision-direction}
-use borrow.Author.Needs.{needs}
 use Rattle.capability.proofs.effect_access.decided.Statement.{statement}
 use Rattle.capability.proofs.effect_access.decided.Tie as tie
 
@@ -23,8 +23,14 @@ cast-span-at c = search needs
 span-at-requires : tie.Need-span-at-requires
 span-at-requires c κs = search needs
 
+cast-past : tie.Need-cast-past
+cast-past c = search needs
+
 past-requires : tie.Need-past-requires
 past-requires c κs = search needs
+
+cast-t16 : tie.Need-cast-t16
+cast-t16 c = search needs
 
 -- what the two tests say
 held : (t : Bool) (c : tie.After-access-allows) → c .before .before .effect-holds .result ≡ t → holds (c .before .before .before .args .placed) (c .before .before .before .args .offset) (c .before .before .before .args .width) (c .before .before .before .args .i) ≡ t
@@ -36,8 +42,8 @@ allowed t c e = rw (← c .before .effect-at .ensures) (sym (c .access-allows .e
 returns : tie.Need-returns
 unfolding spanOf
 returns c =
-    let d = c .before .before .before in
-    rw (decision-inside _ _ _ _ _ (held true (d .before .before) (d .before .if1 .taken)) (allowed true (d .before .before) (d .if2 .taken)), c .past .ensures, c .before .span-at .ensures, d .before .before .before .effect-at .ensures)
+    let d = c .before .before .before .before in
+    rw (decision-inside _ _ _ _ _ (held true (d .before .before) (d .before .if1 .taken)) (allowed true (d .before .before) (d .if2 .taken)), c .past .ensures, c .before .before .span-at .ensures, d .before .before .before .effect-at .ensures)
 
 returns-2 : tie.Need-returns-2
 returns-2 c = sym (decision-direction _ _ _ _ _ (allowed false (c .before .before) (c .if2 .left)))
@@ -54,7 +60,9 @@ decided-spec =
     access-allows-requires
     cast-span-at
     span-at-requires
+    cast-past
     past-requires
+    cast-t16
     returns
     returns-2
     returns-3)

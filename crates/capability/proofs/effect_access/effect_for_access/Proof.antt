@@ -1,7 +1,7 @@
--- `effect_for_access` is decided by the effect that the access touches first. Assumes nothing.
+-- `effect_for_access` is decided by the effect that the access touches first.
 use mathlib.Core.Path.{sym, _∙_}
-use Rattle.capability.proofs.Touches.{touch-effect, touch-nobody}
 use borrow.Author.Needs.{needs}
+use Rattle.capability.proofs.Touches.{touch-effect, touch-nobody}
 use Rattle.capability.proofs.effect_access.effect_for_access.Statement.{statement}
 use Rattle.capability.proofs.effect_access.effect_for_access.Tie as tie
 

@@ -1,5 +1,5 @@
--- `layout_capabilities`: the answer, and what comes with it. Assumes nothing.
-use mathlib.Core.Path.{_≡_, sym, _∙_}
+-- `layout_capabilities`: the answer, and what comes with it.
+use mathlib.Core.Path.{sym, _∙_}
 use borrow.Author.Needs.{needs}
 use Rattle.capability.specs.Layout.{layoutOf}
 use Rattle.capability.proofs.layout.layout_capabilities.Statement.{statement}
@@ -17,14 +17,14 @@ place-requires c κs = sym (c .before .before .check-layout .ensures) ∙ c .enu
 enum-told-2 : tie.Need-enum-told-2
 enum-told-2 c = search needs
 
-place-nothing-requires : tie.Need-place-nothing-requires
-place-nothing-requires c κs = search needs
+none-requires : tie.Need-none-requires
+none-requires c κs = search needs
 
 enum-told-3 : tie.Need-enum-told-3
 enum-told-3 c = search needs
 
-place-nothing-requires-2 : tie.Need-place-nothing-requires-2
-place-nothing-requires-2 c κs = search needs
+none-requires-2 : tie.Need-none-requires-2
+none-requires-2 c κs = search needs
 
 returns : tie.Need-returns
 unfolding layoutOf
@@ -32,11 +32,11 @@ returns c = rw (c .place .ensures, ← c .before .before .before .check-layout .
 
 returns-2 : tie.Need-returns-2
 unfolding layoutOf
-returns-2 c = rw (c .place-nothing .ensures, ← c .before .before .before .check-layout .ensures, c .before .enum-told2 .given .1)
+returns-2 c = rw (c .none .ensures, ← c .before .before .before .check-layout .ensures, c .before .enum-told2 .given .1)
 
 returns-3 : tie.Need-returns-3
 unfolding layoutOf
-returns-3 c = rw (c .place-nothing2 .ensures, ← c .before .before .before .check-layout .ensures, c .before .enum-told3 .given .1)
+returns-3 c = rw (c .none2 .ensures, ← c .before .before .before .check-layout .ensures, c .before .enum-told3 .given .1)
 
 pub layout-capabilities-spec : {M : Type 1} → statement M
 layout-capabilities-spec =
@@ -46,9 +46,9 @@ layout-capabilities-spec =
     enum-told
     place-requires
     enum-told-2
-    place-nothing-requires
+    none-requires
     enum-told-3
-    place-nothing-requires-2
+    none-requires-2
     returns
     returns-2
     returns-3)

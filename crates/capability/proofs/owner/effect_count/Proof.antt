@@ -1,20 +1,21 @@
--- `effect_count` is the count, at most the length of the list. Assumes nothing.
+-- `effect_count` is the count, at most the length of the list.
 use mathlib.Core.Path.{_≡_}
 use native.Mathlib.Omega.{arith}
 use borrow.Author.Needs.{needs}
 use lib.ListN.{length, length-take}
-use Rattle.capability.proofs.Spans.{long-unmapped}
+use Rattle.word.proofs.Mapped.{long-unmapped}
+use Rattle.address.specs.Limits.{effectRoom}
 use Rattle.capability.proofs.owner.effect_count.Statement.{statement}
 use Rattle.capability.proofs.owner.effect_count.Tie as tie
 
-long : (c : tie.Start) → length (c .args .placed .effects) ≡ 32
+long : (c : tie.Start) → length (c .args .placed .effects) ≡ effectRoom
 long c = search (needs, long-unmapped)
 
-returns : tie.Need-returns
-returns c = rw length-take (omega (arith, long (c .before)))
+at-most-requires : tie.Need-at-most-requires
+at-most-requires c κs = search needs
 
-returns-2 : tie.Need-returns-2
-returns-2 c = rw length-take (omega (arith, long (c .before)))
+returns : tie.Need-returns
+returns c = rw length-take (omega (arith, long (c .before), c .at-most .ensures))
 
 pub effect-count-spec : {M : Type 1} → statement M
-effect-count-spec = tie.close (tie.spec returns returns-2)
+effect-count-spec = tie.close (tie.spec at-most-requires returns)

@@ -1,4 +1,4 @@
--- `effect_holds` compares the two intervals without a sum that could wrap. Assumes nothing.
+-- `effect_holds` compares the two intervals without a sum that could wrap.
 use mathlib.Core.Path.{sym}
 use native.Mathlib.Omega.{arith}
 use borrow.Author.Needs.{needs}

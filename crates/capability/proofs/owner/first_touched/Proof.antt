@@ -1,12 +1,12 @@
--- `first_touched` passes every effect that the access does not touch. Assumes nothing.
+-- `first_touched` passes every effect that the access does not touch.
 use Prim.Native.Nat.{_≤_, _-_}
 use mathlib.Core.Bool.{false}
 use mathlib.Core.Path.{_≡_, sym, _∙_}
 use native.Mathlib.Omega.{arith}
 use borrow.Author.Needs.{needs}
 use lib.ListN.{length}
-use Rattle.word.specs.Table.{anyBelow}
-use Rattle.word.proofs.Tables.{any-none, any-more}
+use Rattle.word.specs.Search.{anyBelow}
+use Rattle.word.proofs.Searches.{any-none, any-more}
 use Rattle.capability.specs.Owner.{effectsOf, touches}
 use Rattle.capability.proofs.Owners.{touched-first, touched-nobody}
 use Rattle.capability.proofs.owner.first_touched.Statement.{statement}

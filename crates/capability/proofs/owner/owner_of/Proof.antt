@@ -1,4 +1,4 @@
--- `owner_of` asks for the effect that an access of one byte touches first. Assumes nothing.
+-- `owner_of` asks for the effect that an access of one byte touches first.
 use mathlib.Core.Path.{_∙_}
 use borrow.Author.Needs.{needs}
 use Rattle.capability.proofs.Owners.{touched-byte}

@@ -1,4 +1,4 @@
--- `region_start` adds the effect's offset to its capability's start. Assumes nothing.
+-- `region_start` adds the effect's offset to its capability's start.
 use borrow.Author.Needs.{needs}
 use Rattle.capability.specs.Owner.{spanOf, regionStart}
 use Rattle.capability.proofs.owner.region_start.Statement.{statement}

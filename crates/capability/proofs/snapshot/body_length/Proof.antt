@@ -1,5 +1,4 @@
--- `body_length` is the length, at most the longest body's. Assumes nothing.
-use native.Mathlib.Omega.{arith}
+-- `body_length` is the length, at most the longest body's.
 use mathlib.Core.Path.{_≡_, ap}
 use borrow.Author.Needs.{needs}
 use Rattle.capability.specs.Owner.{spanOf, capabilityAt}
@@ -11,8 +10,11 @@ use Rattle.capability.proofs.snapshot.body_length.Tie as tie
 span-at-requires : tie.Need-span-at-requires
 span-at-requires c κs = search needs
 
-cast-n : tie.Need-cast-n
-cast-n c = search needs
+cast-at-most : tie.Need-cast-at-most
+cast-at-most c = search needs
+
+at-most-requires : tie.Need-at-most-requires
+at-most-requires c κs = search needs
 
 length-is : (c : tie.After-span-at) → c .span-at .result .length ≡ capabilityAt (c .before .args .placed) (c .before .args .i) .length
 unfolding spanOf
@@ -20,11 +22,7 @@ length-is c = ap (λ (s : Span). s .length) (c .span-at .ensures)
 
 returns : tie.Need-returns
 unfolding bodyLength
-returns c = omega (arith, length-is (c .before .before))
-
-returns-2 : tie.Need-returns-2
-unfolding bodyLength
-returns-2 c = omega (arith, length-is (c .before .before))
+returns c = rw (← length-is (c .before .before)) (c .at-most .ensures)
 
 pub body-length-spec : {M : Type 1} → statement M
-body-length-spec = tie.close (tie.spec span-at-requires cast-n returns returns-2)
+body-length-spec = tie.close (tie.spec span-at-requires cast-at-most at-most-requires returns)

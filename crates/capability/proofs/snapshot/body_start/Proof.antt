@@ -1,4 +1,4 @@
--- `body_start` passes the header. Assumes nothing.
+-- `body_start` passes the header.
 use borrow.Author.Needs.{needs}
 use Rattle.capability.specs.Owner.{spanOf}
 use Rattle.capability.specs.Snapshot.{bodyStart}

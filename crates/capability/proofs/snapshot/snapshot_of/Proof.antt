@@ -1,17 +1,18 @@
--- `snapshot_of` has copied k bytes after k turns. Assumes nothing.
-use Prim.Native.Nat.{_≤_, _-_}
+-- `snapshot_of` has copied k bytes after k turns.
+use Prim.Native.Nat.{_+_, _≤_, _-_}
 use mathlib.Core.Path.{_≡_, _∙_}
 use native.Mathlib.Omega.{arith}
 use borrow.Author.Needs.{needs}
-use Rattle.word.specs.Table.{table}
+use lib.ListN.{getD}
+use Rattle.word.specs.Table.{filled}
+use Rattle.word.proofs.Tables.{blank-filled, filled-more}
 use Rattle.capability.specs.Size.{bodyMost}
-use Rattle.capability.specs.Snapshot.{bodyLength, copied, snapshotOf}
-use Rattle.capability.proofs.Snapshots.{copied-none, copied-more}
+use Rattle.capability.specs.Snapshot.{bodyLength, snapshotOf}
 use Rattle.capability.proofs.snapshot.snapshot_of.Statement.{statement}
 use Rattle.capability.proofs.snapshot.snapshot_of.Tie as tie
 
 abbrev Inv-loop : tie.InvT-loop
-Inv-loop image i start length bytes₀ k₀ bytes k = (k ≤ length) × (length ≤ bodyMost) × (bytes ≡ table bodyMost (copied image start k))
+Inv-loop image i start length bytes₀ k₀ bytes k = (k ≤ length) × (length ≤ bodyMost) × (bytes ≡ filled bodyMost k (λ j. getD image (start + j) 0) 0)
 
 abbrev μ-loop : tie.MeasureT-loop
 μ-loop image i start length bytes₀ k₀ bytes k = length - k
@@ -27,7 +28,7 @@ blank-requires c κs = search needs
 
 loop-holds : tie.Need-loop-holds Inv-loop μ-loop
 unfolding bodyLength
-loop-holds c = (omega arith, omega (arith, c .before .body-length .ensures), c .blank .ensures ∙ copied-none _ _)
+loop-holds c = (omega arith, omega (arith, c .before .body-length .ensures), c .blank .ensures ∙ blank-filled bodyMost _ 0)
 
 add-byte-at : tie.Need-add-byte-at Inv-loop μ-loop
 add-byte-at c = omega (arith, c .before .before .before .before .body-start .ensures .1, c .before .loop .inv)
@@ -47,7 +48,7 @@ loop-less c = omega arith
 loop-again : tie.Need-loop-again Inv-loop μ-loop
 loop-again c =
     let l = c .before .before .loop in
-    (omega arith, l .inv .1, rw (l .inv .2) (copied-more _ _ (l .k) _ (omega (arith, l .inv)) (c .byte-at .ensures)))
+    (omega arith, l .inv .1, rw (l .inv .2) (filled-more bodyMost _ 0 (l .k) _ (omega (arith, l .inv)) (c .byte-at .ensures)))
 
 cast-t14 : tie.Need-cast-t14 Inv-loop μ-loop
 cast-t14 c = omega (arith, c .before .loop .inv .1)

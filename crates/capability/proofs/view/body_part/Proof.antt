@@ -1,12 +1,12 @@
--- `body_part` cuts the body out of the chosen image, which is long enough where there is a view. Assumes nothing.
+-- `body_part` cuts the body out of the chosen image, which is long enough where there is a view.
 use Prim.Native.Nat.{_+_, _-_, _≤_}
 use mathlib.Core.Bool.{true}
 use mathlib.Core.Path.{_≡_, sym, _∙_}
 use native.Mathlib.Omega.{arith}
+use borrow.Author.Needs.{needs}
 use lib.ListN.{length}
 use Rattle.capability.specs.View.{viewed, bodyIn}
 use Rattle.capability.proofs.Views.{viewed-seen, shown-live, shown-power, shown-none, add-sub}
-use borrow.Author.Needs.{needs}
 use Rattle.capability.proofs.view.body_part.Statement.{statement}
 use Rattle.capability.proofs.view.body_part.Tie as tie
 
@@ -38,7 +38,7 @@ part-result-start : tie.Need-part-result-start
 part-result-start c = search needs
 
 part-result-end : tie.Need-part-result-end
-part-result-end c = omega (arith, reaches (c .before) .0)
+part-result-end c = omega (arith, reaches (c .before) .0, reaches (c .before) .1)
 
 sub-result-2 : tie.Need-sub-result-2
 sub-result-2 c = search needs
@@ -47,7 +47,7 @@ part-result-start-2 : tie.Need-part-result-start-2
 part-result-start-2 c = search needs
 
 part-result-end-2 : tie.Need-part-result-end-2
-part-result-end-2 c = omega (arith, reaches (c .before) .1)
+part-result-end-2 c = omega (arith, reaches (c .before) .0, reaches (c .before) .1)
 
 slice-aggregate-result : tie.Need-slice-aggregate-result
 slice-aggregate-result c = search needs

@@ -1,8 +1,8 @@
--- `has_view` tests the index, the two lengths and the end, in this order. Assumes nothing.
+-- `has_view` tests the index, the two lengths and the end, in this order.
 use mathlib.Core.Path.{sym}
 use native.Mathlib.Omega.{arith}
-use Rattle.capability.proofs.Views.{body-most, none-past, none-live, none-power, viewed-last}
 use borrow.Author.Needs.{needs}
+use Rattle.capability.proofs.Views.{body-most, none-past, none-live, none-power, viewed-last}
 use Rattle.capability.proofs.view.has_view.Statement.{statement}
 use Rattle.capability.proofs.view.has_view.Tie as tie
 

@@ -1,21 +1,19 @@
 -- `shown_or` meets its contract: a walk of its MIR, by hand, with a branch in it (`branches`). Each arm ends where the rest of the code begins, and `exec` makes that a goal about code again.
--- Assumes nothing.
-use Rattle.walks.proofs.Walk.{URA, _≡_, refl, List, [], _∷_, Bool, ℕ, length, Holds, named, erased, tyBool, Val, WT, hasTy, SProp, ent, emp, via, fst∗, Lft, Share, Fml, ftrue, flft, Memory, Routine, Heap, Calls, Loops, WpFn, Tables, Atoms, Lfts, Fun, givenOf, tables, tablesOf}
-use Rattle.walks.proofs.Walk.{Given, ‵, raw, _⊛_, given, _$_, _∵_, !, qed, by, move, keep, use1, split, learn, fsplit, suffices, frame, done, look, init, forget, stop, fld, from, load, of-opd, assigns, returns, enter, alloc1, alloc0, params1, pass1, pass0, free1, free0, whole, sub, look-in, WpFn-mono}
-use Rattle.walks.proofs.Walk.{RattleType, owns, Is, lone, u8, RefT, now, sliceVal, ShrSlice, slice-vals, shr-slice-tells, shr-slice-lawful, shr-slice-copy, plain, namedLft, Declared, Values, all-own, ownAt, rest, own-open, own-out, Copies, twices, Vals, onEntry, Meets, tripleOf, entered, says, Stays, stay-none, stay-none-slice, walkOf, AllGo, goes-none, goes-none-slice, Walks, ends-at, walked, walk-meets, yes}
+--
 use mathlib.Core.Bool.{true, false, not, cond}
-use prog.Wp.{Env}
-use types.Kit.{atRet}
-use types.Run.{first, branches, assigns-last, exec}
-use denote.Struct.Laws as LL
 use Rattle.capability.specs.declared.view.View.{View}
 use Rattle.capability.proofs.view.View as T
 use Rattle.capability.proofs.view.View.Laws as T′
 use Rattle.capability.proofs.view.shown_or.Key.{name as #me}
 use Rattle.capability.proofs.view.shown_or as me
-use Rattle.capability.proofs.view.shown_or.Statement as stated
 use Rattle.capability.proofs.view.shown_or.Code as code
 use Rattle.capability.proofs.view.shown_or.Code.Mir as mir
+use Rattle.capability.proofs.view.shown_or.Statement as stated
+use Rattle.walks.proofs.Walk.{URA, _≡_, refl, List, [], _∷_, Bool, ℕ, length, Holds, named, erased, tyBool, Val, WT, hasTy, SProp, ent, emp, via, fst∗, Lft, Share, Fml, ftrue, flft, Memory, Routine, Heap, Calls, Loops, WpFn, Tables, Atoms, Lfts, Fun, givenOf, tables, tablesOf, Given, ‵, raw, _⊛_, given, _$_, _∵_, !, qed, by, move, keep, use1, split, learn, fsplit, suffices, frame, done, look, init, forget, stop, fld, from, load, of-opd, assigns, returns, enter, alloc1, alloc0, params1, pass1, pass0, free1, free0, whole, sub, look-in, WpFn-mono, RattleType, owns, Is, lone, u8, RefT, now, sliceVal, ShrSlice, slice-vals, shr-slice-tells, shr-slice-lawful, shr-slice-copy, plain, namedLft, Declared, Values, all-own, ownAt, rest, own-open, own-out, Copies, twices, Vals, onEntry, Meets, tripleOf, entered, says, Stays, stay-none, stay-none-slice, walkOf, AllGo, goes-none, goes-none-slice, Walks, ends-at, walked, walk-meets, yes}
+use prog.Wp.{Env}
+use types.Kit.{atRet}
+use types.Run.{first, branches, assigns-last, exec}
+use denote.Struct.Laws as LL
 
 abbrev B : Lfts 1 → RattleType
 B κs = T.the-row (namedLft 1 0 tt κs)

@@ -1,12 +1,7 @@
 -- `view_of` meets its contract: a walk of its MIR, by hand. `has_view` and `body_part` are called on the same parameters in the same order, and the struct is made of their answers. There is no branch in the walk: both have it in them.
 -- All that the proof knows of the two is that they meet their contracts. Every parameter is Copy: what they own is had twice (`twices`), once for the callee and once to keep.
--- Assumes nothing.
-use Rattle.walks.proofs.Walk.{_≡_, refl, ap, Bool, ℕ, _<_, _^_, List, [], _∷_, length, URA, fullShare, named, erased, tyBool, w16, w64, Val, vbool, vint, SProp, ent, sep, emp, via, fst∗, snd∗, exE, id⊢, Lft, Share, Fml, ftrue, flft, fat, Memory, Routine, Heap, Calls, Loops}
-use Rattle.walks.proofs.Walk.{WpFn, Tables, Atoms, sem, Fun, fact, givenOf, tables, tablesOf, Given, ‵, raw, _⊛_, ⋆, some, later, _$_, _∵_, !, qed, by, move, use1, use2, split, join, pick, rewrite, fjoin, suffices, frame, await, done, agg, look, init, forget, stop, from, load}
-use Rattle.walks.proofs.Walk.{and-then, no-more, assigns, land, returns, enter, alloc1, alloc0, params1, pass1, pass0, free1, free0, FmC, fmOf, WpFn-mono, RattleType, owns, lone, Is, shows, uint-vals, uint-tells, uint-copy, bool-vals, bool-tells, bool-makes, bool-lawful, bool-copy, u8, usize, u16, bool, RefT, NamedLft, now, plain, namedLft, sliceVal, ShrSlice, slice-vals}
-use Rattle.walks.proofs.Walk.{shr-slice-tells, shr-slice-lawful, shr-slice-copy, only, owned, peeks, facts, heard, nothing, own-shut, Copies, twices, Contract, Triple, calls-at, Vals, onEntry, Meets, tripleOf, entered, cited, says, Stays, stay-none, stay-none-slice, walkOf, AllGo, goes-none, goes-none-slice, Walks, ends-at, walked, walk-meets, yes, ensured, lasts}
+--
 use Rattle.capability.specs.View.{viewed, bodyOf}
-use denote.Struct.Laws as LL
 use Rattle.capability.specs.declared.placed.Placed.{Placed}
 use Rattle.capability.specs.declared.view.View.{View}
 use Rattle.capability.proofs.placed.Placed as P
@@ -23,8 +18,10 @@ use Rattle.capability.proofs.view.body_part.Symbol.{name as #part}
 use Rattle.capability.proofs.view.body_part.Met as part-thm
 use Rattle.capability.proofs.view.view_of.Key.{name as #me}
 use Rattle.capability.proofs.view.view_of as me
-use Rattle.capability.proofs.view.view_of.Statement as stated
 use Rattle.capability.proofs.view.view_of.Code as code
+use Rattle.capability.proofs.view.view_of.Statement as stated
+use Rattle.walks.proofs.Walk.{_≡_, refl, ap, Bool, ℕ, _<_, _^_, List, [], _∷_, length, URA, fullShare, named, erased, tyBool, w16, w64, Val, vbool, vint, SProp, ent, sep, emp, via, fst∗, snd∗, exE, id⊢, Lft, Share, Fml, ftrue, flft, fat, Memory, Routine, Heap, Calls, Loops, WpFn, Tables, Atoms, sem, Fun, fact, givenOf, tables, tablesOf, Given, ‵, raw, _⊛_, ⋆, some, later, _$_, _∵_, !, qed, by, move, use1, use2, split, join, pick, rewrite, fjoin, suffices, frame, await, done, agg, look, init, forget, stop, from, load, and-then, no-more, assigns, land, returns, enter, alloc1, alloc0, params1, pass1, pass0, free1, free0, FmC, fmOf, WpFn-mono, RattleType, owns, lone, Is, shows, uint-vals, uint-tells, uint-copy, bool-vals, bool-tells, bool-makes, bool-lawful, bool-copy, u8, usize, u16, bool, RefT, NamedLft, now, plain, namedLft, sliceVal, ShrSlice, slice-vals, shr-slice-tells, shr-slice-lawful, shr-slice-copy, only, owned, peeks, facts, heard, nothing, own-shut, Copies, twices, Contract, Triple, calls-at, Vals, onEntry, Meets, tripleOf, entered, cited, says, Stays, stay-none, stay-none-slice, walkOf, AllGo, goes-none, goes-none-slice, Walks, ends-at, walked, walk-meets, yes, ensured, lasts}
+use denote.Struct.Laws as LL
 
 abbrev stayed : Stays (me.ended .signature .params) (me.ended .kept)
 stayed = (stay-none (λ _. P.the-row) yes, (stay-none (λ _. usize) yes, (stay-none-slice (0 ∷ []) tt (plain (λ _. u8)) yes, (stay-none-slice (0 ∷ []) tt (plain (λ _. u8)) yes, (stay-none (λ _. u16) yes, (stay-none (λ _. bool) yes, tt))))))

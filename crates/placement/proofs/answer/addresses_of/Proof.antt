@@ -1,13 +1,14 @@
--- `addresses_of` fills the list key by key. Assumes nothing.
+-- `addresses_of` fills the list key by key.
 use Prim.Native.Nat.{ℕ, _-_, _≤_}
 use mathlib.Core.Path.{_≡_, refl, _∙_}
 use mathlib.Core.List.{List}
 use lib.ListN.{getD}
 use Rattle.bar.specs.declared.range.Range.{Range}
-use Rattle.placement.specs.Limits.{barLimit}
+use Rattle.placement.specs.Keys.{keyCount}
 use Rattle.placement.specs.Place.{noRange}
 use Rattle.placement.specs.Answer.{addressesOf}
-use Rattle.placement.proofs.Fills.{filled, filled-none, filled-more, filled-all}
+use Rattle.word.specs.Table.{filled}
+use Rattle.word.proofs.Tables.{blank-filled, filled-more, filled-all}
 use native.Mathlib.Omega.{arith}
 use Rattle.placement.proofs.answer.addresses_of.Statement.{statement}
 use Rattle.placement.proofs.answer.addresses_of.Tie as tie
@@ -16,13 +17,13 @@ abbrev start : List Range → ℕ → ℕ
 start placed key = getD placed key noRange .start
 
 abbrev Inv-loop : tie.InvT-loop
-Inv-loop placed addresses₀ key₀ addresses key = (key ≤ barLimit) × (addresses ≡ filled 0 (start placed) barLimit key)
+Inv-loop placed addresses₀ key₀ addresses key = (key ≤ keyCount) × (addresses ≡ filled keyCount key (start placed) 0)
 
 abbrev μ-loop : tie.MeasureT-loop
-μ-loop placed addresses₀ key₀ addresses key = barLimit - key
+μ-loop placed addresses₀ key₀ addresses key = keyCount - key
 
 loop-holds : tie.Need-loop-holds Inv-loop μ-loop
-loop-holds c = (omega arith, filled-none 0 (start (c .args .t1)) barLimit)
+loop-holds c = (omega arith, blank-filled keyCount (start (c .args .t1)) 0)
 
 mul-range : tie.Need-mul-range Inv-loop μ-loop
 mul-range c = omega arith
@@ -46,14 +47,14 @@ loop-again : tie.Need-loop-again Inv-loop μ-loop
 loop-again c =
     let l = c .before .before .loop in
     let placed = c .before .before .before .args .t1 in
-    (omega arith, rw (l .inv .1) (filled-more 0 (start placed) barLimit (l .key) (start placed (l .key)) (omega arith) refl))
+    (omega arith, rw (l .inv .1) (filled-more keyCount (start placed) 0 (l .key) (start placed (l .key)) (omega arith) refl))
 
 returns : tie.Need-returns Inv-loop μ-loop
 unfolding addressesOf
 returns c =
     let l = c .before .loop in
-    let e : l .key ≡ barLimit = omega arith in
-    l .inv .1 ∙ rw e (filled-all 0 (start (c .before .before .args .t1)) barLimit)
+    let e : l .key ≡ keyCount = omega arith in
+    l .inv .1 ∙ rw e (filled-all keyCount (start (c .before .before .args .t1)) 0)
 
 pub addresses-of-spec : {M : Type 1} → statement M
 addresses-of-spec =

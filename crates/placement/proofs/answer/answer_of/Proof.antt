@@ -1,4 +1,4 @@
--- `answer_of` goes by the verdict. Assumes nothing.
+-- `answer_of` goes by the verdict.
 use borrow.Author.Needs.{needs}
 use Rattle.placement.proofs.answer.answer_of.Statement.{statement}
 use Rattle.placement.proofs.answer.answer_of.Tie as tie

@@ -1,10 +1,11 @@
--- `device_of`: past the last function stands a blank one. Assumes nothing.
+-- `device_of`: past the last function stands a blank one.
 use mathlib.Core.Path.{_≡_, sym, ap}
 use native.Mathlib.Omega.{arith}
 use lib.ListN.{length, List·getD-eq-default}
-use Rattle.placement.specs.Limits.{functionLimit}
+use Rattle.address.specs.Limits.{functionRoom}
 use Rattle.placement.specs.Keys.{noFunction}
-use Rattle.placement.proofs.Fills.{long-unmapped}
+use Rattle.word.proofs.Mapped.{long-unmapped}
+use Rattle.placement.proofs.Slots.{any-blank}
 use Rattle.placement.specs.declared.declared_bars.FunctionBars.{FunctionBars}
 use borrow.Author.Needs.{needs}
 use Rattle.placement.proofs.answer.device_of.Statement.{statement}
@@ -16,11 +17,13 @@ mul-function c = search needs
 array-copy-out-function : tie.Need-array-copy-out-function
 array-copy-out-function c = search needs
 
-returns : tie.Need-returns
-returns c = search needs
-
-long : (c : tie.Start) → length (c .args .declared .functions) ≡ functionLimit
+long : (c : tie.Start) → length (c .args .declared .functions) ≡ functionRoom
 long c = search (needs, long-unmapped)
+
+returns : tie.Need-returns
+returns c =
+    let s = c .before .before .before in
+    ap (λ (f : FunctionBars). f .device) (any-blank (s .args .declared .functions) (s .args .index) _ noFunction (omega (arith, long s)))
 
 returns-2 : tie.Need-returns-2
 returns-2 c = ap (λ (f : FunctionBars). f .device) (sym (List·getD-eq-default (c .before .before .args .declared .functions) noFunction (omega (arith, long (c .before .before)))))

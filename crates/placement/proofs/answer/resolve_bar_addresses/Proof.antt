@@ -1,4 +1,4 @@
--- `resolve_bar_addresses` makes both passes over the BARs by key. Assumes nothing.
+-- `resolve_bar_addresses` makes both passes over the BARs by key.
 use mathlib.Core.Path.{_∙_}
 use borrow.Author.Needs.{needs}
 use Rattle.placement.specs.Passes.{placingOf}

@@ -1,7 +1,7 @@
--- `automatic_step` goes by the verdict so far, then by whether one waits. Assumes nothing.
+-- `automatic_step` goes by the verdict so far, then by whether one waits.
 use Prim.Native.Nat.{_<_}
 use mathlib.Core.Path.{sym, _∙_}
-use Rattle.placement.specs.Limits.{barLimit}
+use Rattle.placement.specs.Keys.{keyCount}
 use Rattle.placement.proofs.Nexts.{next-is}
 use Rattle.placement.proofs.Steps.{auto-refused, auto-none, auto-next}
 use native.Mathlib.Omega.{arith}
@@ -25,7 +25,7 @@ enum-known-key : tie.Need-enum-known-key
 enum-known-key c = search needs
 
 -- the next one is a key
-below : (c : tie.After-key) → c .key .given .0 .0 < barLimit
+below : (c : tie.After-key) → c .key .given .0 .0 < keyCount
 below c = next-is _ _ _ (sym (c .before .before .next-automatic .ensures) ∙ c .key .given .1) .0
 
 mul-bar : tie.Need-mul-bar

@@ -1,4 +1,4 @@
--- `next_automatic`: the largest that waits is the next one. Assumes nothing.
+-- `next_automatic`: the largest that waits is the next one.
 use Prim.Native.Nat.{_<_}
 use mathlib.Core.Path.{sym, ap, _∙_}
 use native.Mathlib.Omega.{arith}

@@ -1,8 +1,8 @@
--- `place_automatic` after n turns has made n steps. Assumes nothing.
+-- `place_automatic` after n turns has made n steps.
 use Prim.Native.Nat.{_-_, _≤_}
 use mathlib.Core.Path.{_≡_, refl}
 use native.Mathlib.Numerals.{add-one}
-use Rattle.placement.specs.Limits.{barLimit}
+use Rattle.placement.specs.Keys.{keyCount}
 use Rattle.placement.specs.Passes.{autoAfter}
 use borrow.Author.Needs.{needs}
 use native.Mathlib.Omega.{arith}
@@ -10,10 +10,10 @@ use Rattle.placement.proofs.automatic.place_automatic.Statement.{statem
 use Rattle.placement.proofs.automatic.place_automatic.Tie as tie
 
 abbrev Inv-loop : tie.InvT-loop
-Inv-loop aperture bars now₀ turn₀ now turn = (turn ≤ barLimit) × (now ≡ autoAfter aperture bars now₀ turn)
+Inv-loop aperture bars now₀ turn₀ now turn = (turn ≤ keyCount) × (now ≡ autoAfter aperture bars now₀ turn)
 
 abbrev μ-loop : tie.MeasureT-loop
-μ-loop aperture bars now₀ turn₀ now turn = barLimit - turn
+μ-loop aperture bars now₀ turn₀ now turn = keyCount - turn
 
 loop-holds : tie.Need-loop-holds Inv-loop μ-loop
 unfolding autoAfter
@@ -33,7 +33,7 @@ unfolding autoAfter
 loop-again c = (omega arith, rw (add-one, c .automatic-step .ensures, c .before .before .loop .inv .1))
 
 returns : tie.Need-returns Inv-loop μ-loop
-returns c = let e : c .before .loop .turn ≡ barLimit = omega arith in rw (← e) (c .before .loop .inv .1)
+returns c = let e : c .before .loop .turn ≡ keyCount = omega arith in rw (← e) (c .before .loop .inv .1)
 
 pub place-automatic-spec : {M : Type 1} → statement M
 place-automatic-spec =

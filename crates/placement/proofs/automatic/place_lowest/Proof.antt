@@ -1,4 +1,4 @@
--- `place_lowest` takes the search's answer, which is the only one. Assumes nothing.
+-- `place_lowest` takes the search's answer, which is the only one.
 use Rattle.placement.proofs.Places.{is-lowest}
 use borrow.Author.Needs.{needs}
 use Rattle.placement.proofs.automatic.place_lowest.Statement.{statement}

@@ -1,19 +1,19 @@
--- `conflict_with` after i ranges knows the conflict with these. Assumes nothing.
+-- `conflict_with` after i ranges knows the conflict with these.
 use Prim.Native.Nat.{_-_, _≤_}
 use mathlib.Core.Path.{_≡_, refl}
 use native.Mathlib.Numerals.{add-one}
 use native.Mathlib.Omega.{arith}
 use borrow.Author.Needs.{needs}
-use Rattle.placement.specs.Limits.{barLimit}
+use Rattle.placement.specs.Keys.{keyCount}
 use Rattle.placement.specs.Skip.{conflictIn}
 use Rattle.placement.proofs.conflict.conflict_with.Statement.{statement}
 use Rattle.placement.proofs.conflict.conflict_with.Tie as tie
 
 abbrev Inv-loop : tie.InvT-loop
-Inv-loop range placed known₀ i₀ known i = (i ≤ barLimit) × (known ≡ conflictIn range placed i)
+Inv-loop range placed known₀ i₀ known i = (i ≤ keyCount) × (known ≡ conflictIn range placed i)
 
 abbrev μ-loop : tie.MeasureT-loop
-μ-loop range placed known₀ i₀ known i = barLimit - i
+μ-loop range placed known₀ i₀ known i = keyCount - i
 
 loop-holds : tie.Need-loop-holds Inv-loop μ-loop
 unfolding conflictIn
@@ -39,7 +39,7 @@ unfolding conflictIn
 loop-again c = (omega arith, rw (add-one, c .lower-of .ensures, c .before .before .before .loop .inv .1))
 
 returns : tie.Need-returns Inv-loop μ-loop
-returns c = let e : c .before .loop .i ≡ barLimit = omega arith in rw (← e) (c .before .loop .inv .1)
+returns c = let e : c .before .loop .i ≡ keyCount = omega arith in rw (← e) (c .before .loop .inv .1)
 
 pub conflict-with-spec : {M : Type 1} → statement M
 conflict-with-spec =

@@ -1,4 +1,4 @@
--- `lower_of` goes by its two tests. Assumes nothing.
+-- `lower_of` goes by its two tests.
 use mathlib.Core.Path.{sym, _∙_}
 use borrow.Author.Needs.{needs}
 use borrow.Author.Tests.{lt-ltb, le-ltb}

@@ -1,4 +1,4 @@
--- `bar_in_slot`: none of the BARs passed stands at the slot. Assumes nothing.
+-- `bar_in_slot`: none of the BARs passed stands at the slot.
 use Prim.Native.Nat.{ℕ, _-_, _<_, _≤_}
 use mathlib.Core.Bool.{false}
 use mathlib.Core.Path.{_≡_, sym, _∙_, ap}

@@ -1,4 +1,4 @@
--- `no_bars` is 48 times no BAR. Assumes nothing.
+-- `no_bars` is 48 times no BAR.
 use borrow.Author.Needs.{needs}
 use Rattle.placement.proofs.declared_bars.no_bars.Statement.{statement}
 use Rattle.placement.proofs.declared_bars.no_bars.Tie as tie

@@ -1,9 +1,9 @@
--- `checked_bar_range` makes the three checks in order. Assumes nothing.
+-- `checked_bar_range` makes the three checks in order.
 use mathlib.Core.Bool.{true}
 use mathlib.Core.Path.{_≡_, sym, _∙_}
 use lib.ListN.{length}
 use Rattle.bar.specs.Range.{multiple, liesIn}
-use Rattle.placement.specs.Limits.{barLimit}
+use Rattle.placement.specs.Keys.{keyCount}
 use Rattle.placement.specs.declared.conflict.Conflict.the-variants.{With, Free}
 use Rattle.placement.proofs.Skips.{Clash, clash-is, clash-free, clash-met}
 use Rattle.placement.proofs.Verdicts.{verdict-14, verdict-15, verdict-16, verdict-good}
@@ -23,7 +23,7 @@ conflict-with-requires c κs = search needs
 enum-told : tie.Need-enum-told
 enum-told c = search needs
 
-long : (c : tie.Start) → length (c .args .placed) ≡ barLimit
+long : (c : tie.Start) → length (c .args .placed) ≡ keyCount
 long c = search needs
 
 aligned : (c : tie.After-conflict-with) → multiple (c .before .before .before .before .before .args .range) ≡ true
@@ -36,7 +36,7 @@ returns : tie.Need-returns
 returns c =
     let w = c .before .before in
     let a = w .before .before .before .before .before .args in
-    let free : Clash (a .range) (a .placed) barLimit Free = clash-is (a .range) (a .placed) barLimit Free (sym (c .enum-told .given .1) ∙ w .conflict-with .ensures) in
+    let free : Clash (a .range) (a .placed) keyCount Free = clash-is (a .range) (a .placed) keyCount Free (sym (c .enum-told .given .1) ∙ w .conflict-with .ensures) in
     sym (verdict-good _ _ _ _ (aligned w) (inside w) (clash-free (a .range) (a .placed) (rw (long (w .before .before .before .before .before)) free)))
 
 enum-told-2 : tie.Need-enum-told-2
@@ -46,8 +46,8 @@ returns-2 : tie.Need-returns-2
 returns-2 c =
     let w = c .before .before in
     let a = w .before .before .before .before .before .args in
-    let met = clash-is (a .range) (a .placed) barLimit (With (c .enum-told2 .given .0 .0)) (sym (c .enum-told2 .given .1) ∙ w .conflict-with .ensures) in
-    sym (verdict-16 _ _ _ _ (aligned w) (inside w) (clash-met (a .range) (a .placed) barLimit (c .enum-told2 .given .0 .0) met))
+    let met = clash-is (a .range) (a .placed) keyCount (With (c .enum-told2 .given .0 .0)) (sym (c .enum-told2 .given .1) ∙ w .conflict-with .ensures) in
+    sym (verdict-16 _ _ _ _ (aligned w) (inside w) (clash-met (a .range) (a .placed) keyCount (c .enum-told2 .given .0 .0) met))
 
 returns-3 : tie.Need-returns-3
 returns-3 c = sym (verdict-15 _ _ _ _ (sym (c .before .before .before .multiple .ensures) ∙ c .before .before .if1 .taken) (sym (c .before .lies-in .ensures) ∙ c .if2 .left))

@@ -1,4 +1,4 @@
--- `fixed_step` goes by the verdict so far, then by the request. Assumes nothing.
+-- `fixed_step` goes by the verdict so far, then by the request.
 use mathlib.Core.Path.{sym, _∙_}
 use Rattle.placement.proofs.Steps.{fixed-refused, fixed-waits, fixed-asks}
 use borrow.Author.Needs.{needs}

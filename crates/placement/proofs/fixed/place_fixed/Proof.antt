@@ -1,8 +1,8 @@
--- `place_fixed` after n keys has made their steps. Assumes nothing.
+-- `place_fixed` after n keys has made their steps.
 use Prim.Native.Nat.{_-_, _≤_}
 use mathlib.Core.Path.{_≡_}
 use native.Mathlib.Numerals.{add-one}
-use Rattle.placement.specs.Limits.{barLimit}
+use Rattle.placement.specs.Keys.{keyCount}
 use Rattle.placement.specs.Passes.{fixedAfter}
 use borrow.Author.Needs.{needs}
 use native.Mathlib.Omega.{arith}
@@ -10,10 +10,10 @@ use Rattle.placement.proofs.fixed.place_fixed.Statement.{statement}
 use Rattle.placement.proofs.fixed.place_fixed.Tie as tie
 
 abbrev Inv-loop : tie.InvT-loop
-Inv-loop aperture bars state₀ key₀ state key = (key ≤ barLimit) × (state ≡ fixedAfter aperture bars key)
+Inv-loop aperture bars state₀ key₀ state key = (key ≤ keyCount) × (state ≡ fixedAfter aperture bars key)
 
 abbrev μ-loop : tie.MeasureT-loop
-μ-loop aperture bars state₀ key₀ state key = barLimit - key
+μ-loop aperture bars state₀ key₀ state key = keyCount - key
 
 new-requires : tie.Need-new-requires Inv-loop μ-loop
 new-requires c κs = search needs
@@ -36,7 +36,7 @@ unfolding fixedAfter
 loop-again c = (omega arith, rw (add-one, c .fixed-step .ensures, c .before .before .loop .inv .1))
 
 returns : tie.Need-returns Inv-loop μ-loop
-returns c = let e : c .before .loop .key ≡ barLimit = omega arith in rw (← e) (c .before .loop .inv .1)
+returns c = let e : c .before .loop .key ≡ keyCount = omega arith in rw (← e) (c .before .loop .inv .1)
 
 pub place-fixed-spec : {M : Type 1} → statement M
 place-fixed-spec =

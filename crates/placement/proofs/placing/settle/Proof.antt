@@ -1,4 +1,4 @@
--- `settle` goes by the verdict. Assumes nothing.
+-- `settle` goes by the verdict.
 use borrow.Author.Needs.{needs}
 use Rattle.placement.proofs.placing.settle.Statement.{statement}
 use Rattle.placement.proofs.placing.settle.Tie as tie

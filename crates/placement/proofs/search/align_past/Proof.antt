@@ -1,4 +1,4 @@
--- `align_past` aligns up the range's end; where that passes 64 bits, no multiple is left. Assumes nothing.
+-- `align_past` aligns up the range's end; where that passes 64 bits, no multiple is left.
 use native.Mathlib.Omega.{arith}
 use borrow.Author.Needs.{needs}
 use Rattle.placement.proofs.Skips.{aligned-nothing}

@@ -1,4 +1,4 @@
--- `align_up` adds what is missing to the next multiple, where that fits; the only multiple of 0 is 0. Assumes nothing.
+-- `align_up` adds what is missing to the next multiple, where that fits; the only multiple of 0 is 0.
 use Prim.Native.Nat.{_+_, _-_, _%_}
 use mathlib.Core.Path.{_≡_, sym, _∙_}
 use native.Mathlib.Nat.{mod-zero, mod-lt}

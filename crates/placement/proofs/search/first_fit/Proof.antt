@@ -1,4 +1,4 @@
--- `first_fit`: below the candidate there is no place (`Turn`), and each turn leaves fewer placed ranges to pass. Assumes nothing.
+-- `first_fit`: below the candidate there is no place (`Turn`), and each turn leaves fewer placed ranges to pass.
 use mathlib.Core.Path.{_≡_, sym, _∙_}
 use native.Mathlib.Omega.{arith}
 use borrow.Author.Needs.{needs}
@@ -6,7 +6,7 @@ use lib.ListN.{length}
 use mir.Val.{Fits}
 use mir.Syntax.{w64}
 use Rattle.bar.specs.Range.{range}
-use Rattle.placement.specs.Limits.{barLimit}
+use Rattle.placement.specs.Keys.{keyCount}
 use Rattle.placement.specs.declared.search.Fit.the-variants.{At}
 use Rattle.placement.specs.declared.conflict.Conflict.the-variants.{With, Free}
 use Rattle.placement.proofs.Skips.{Clash, clash-is}
@@ -47,7 +47,7 @@ conflict-with-requires c κs = search needs
 enum-told-2 : tie.Need-enum-told-2 Inv-loop μ-loop
 enum-told-2 c = search needs
 
-long : (c : tie.Start Inv-loop μ-loop) → length (c .args .placed) ≡ barLimit
+long : (c : tie.Start Inv-loop μ-loop) → length (c .args .placed) ≡ keyCount
 long c = search needs
 
 -- the turn at a candidate
@@ -60,7 +60,7 @@ returns-2 c =
     let l = w .before .before in
     let a = l .before .before .before .before .before .before .args in
     let start = l .before .before .next .given .0 .0 in
-    let free : Clash (range start (a .size)) (a .placed) barLimit Free = clash-is (range start (a .size)) (a .placed) barLimit Free (sym (c .enum-told2 .given .1) ∙ w .conflict-with .ensures) in
+    let free : Clash (range start (a .size)) (a .placed) keyCount Free = clash-is (range start (a .size)) (a .placed) keyCount Free (sym (c .enum-told2 .given .1) ∙ w .conflict-with .ensures) in
     turn-found (a .aperture) (a .size) (a .placed) start (at-candidate l) (sym (l .lies-in .ensures) ∙ w .before .if1 .taken) (λ i h. free i (omega (arith, long (l .before .before .before .before .before .before))))
 
 enum-known-other : tie.Need-enum-known-other Inv-loop μ-loop
@@ -70,12 +70,12 @@ align-past-requires : tie.Need-align-past-requires Inv-loop μ-loop
 align-past-requires c κs = search needs
 
 -- the range that the candidate meets
-the-clash : (c : tie.After-other Inv-loop μ-loop) → let l = c .before .before .before .before in let a = l .before .before .before .before .before .before .args in Clash (range (l .before .before .next .given .0 .0) (a .size)) (a .placed) barLimit (With (c .other .given .0 .0))
+the-clash : (c : tie.After-other Inv-loop μ-loop) → let l = c .before .before .before .before in let a = l .before .before .before .before .before .before .args in Clash (range (l .before .before .next .given .0 .0) (a .size)) (a .placed) keyCount (With (c .other .given .0 .0))
 the-clash c =
     let w = c .before .before in
     let l = w .before .before in
     let a = l .before .before .before .before .before .before .args in
-    clash-is (range (l .before .before .next .given .0 .0) (a .size)) (a .placed) barLimit (With (c .other .given .0 .0)) (sym (c .other .given .1) ∙ w .conflict-with .ensures)
+    clash-is (range (l .before .before .next .given .0 .0) (a .size)) (a .placed) keyCount (With (c .other .given .0 .0)) (sym (c .other .given .1) ∙ w .conflict-with .ensures)
 
 loop-less : tie.Need-loop-less Inv-loop μ-loop
 loop-less c =

@@ -1,4 +1,4 @@
--- `larger_of` is its own test. Assumes nothing.
+-- `larger_of` is its own test.
 use borrow.Author.Tests.{lt-ltb, le-ltb}
 use Rattle.placement.proofs.waiting.larger_of.Statement.{statement}
 use Rattle.placement.proofs.waiting.larger_of.Tie as tie

@@ -1,8 +1,8 @@
--- `largest_waiting` after n keys knows the largest of these. Assumes nothing.
+-- `largest_waiting` after n keys knows the largest of these.
 use Prim.Native.Nat.{_-_, _≤_}
 use mathlib.Core.Path.{_≡_, refl}
 use native.Mathlib.Numerals.{add-one}
-use Rattle.placement.specs.Limits.{barLimit}
+use Rattle.placement.specs.Keys.{keyCount}
 use Rattle.placement.specs.Largest.{largestIn}
 use borrow.Author.Needs.{needs}
 use native.Mathlib.Omega.{arith}
@@ -10,10 +10,10 @@ use Rattle.placement.proofs.waiting.largest_waiting.Statement.{statemen
 use Rattle.placement.proofs.waiting.largest_waiting.Tie as tie
 
 abbrev Inv-loop : tie.InvT-loop
-Inv-loop bars placed largest₀ key₀ largest key = (key ≤ barLimit) × (largest ≡ largestIn bars placed key)
+Inv-loop bars placed largest₀ key₀ largest key = (key ≤ keyCount) × (largest ≡ largestIn bars placed key)
 
 abbrev μ-loop : tie.MeasureT-loop
-μ-loop bars placed largest₀ key₀ largest key = barLimit - key
+μ-loop bars placed largest₀ key₀ largest key = keyCount - key
 
 loop-holds : tie.Need-loop-holds Inv-loop μ-loop
 unfolding largestIn
@@ -36,7 +36,7 @@ unfolding largestIn
 loop-again c = (omega arith, rw (add-one, c .larger-of .ensures, c .before .waiting-at .ensures, c .before .before .before .loop .inv .1))
 
 returns : tie.Need-returns Inv-loop μ-loop
-returns c = let e : c .before .loop .key ≡ barLimit = omega arith in rw (← e) (c .before .loop .inv .1)
+returns c = let e : c .before .loop .key ≡ keyCount = omega arith in rw (← e) (c .before .loop .inv .1)
 
 pub largest-waiting-spec : {M : Type 1} → statement M
 largest-waiting-spec =

@@ -1,4 +1,4 @@
--- `waiting_at` goes by the request and by what the key has. Assumes nothing.
+-- `waiting_at` goes by the request and by what the key has.
 use mathlib.Core.Path.{sym, _∙_}
 use Rattle.placement.proofs.Largests.{waiting-fixed, waiting-placed, waiting-auto}
 use borrow.Author.Needs.{needs}

@@ -1,7 +1,7 @@
--- `add_capability` stores at the count, or nothing where the list is full. Assumes nothing.
+-- `add_capability` stores at the count, or nothing where the list is full.
 use borrow.Author.Needs.{needs}
 use borrow.Author.Tests.{le-leb, lt-leb}
-use Rattle.capability.specs.Declaration.{addCapabilityOf}
+use Rattle.capability.specs.Addition.{addCapabilityOf}
 use Rattle.capability.proofs.declared.Capabilities.add_capability.Statement.{statement}
 use Rattle.capability.proofs.declared.Capabilities.add_capability.Tie as tie
 

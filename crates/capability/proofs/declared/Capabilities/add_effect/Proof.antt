@@ -1,8 +1,7 @@
--- `add_effect`: the answers in document 01's order, and the effect at the end of the list. Assumes nothing.
-use mathlib.Core.Path.{_≡_, sym, _∙_}
+-- `add_effect`: the answers in document 01's order, and the effect at the end of the list.
 use borrow.Author.Needs.{needs}
 use borrow.Author.Tests.{le-leb, lt-leb, eq-eqb, ne-eqb}
-use Rattle.capability.specs.Declaration.{addEffectOf}
+use Rattle.capability.specs.Addition.{addEffectOf}
 use Rattle.capability.proofs.declared.Capabilities.add_effect.Statement.{statement}
 use Rattle.capability.proofs.declared.Capabilities.add_effect.Tie as tie
 

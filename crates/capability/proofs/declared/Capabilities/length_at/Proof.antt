@@ -1,16 +1,17 @@
--- `length_at` reads 0 past the array. Assumes nothing.
+-- `length_at` reads 0 past the array.
 use Prim.Native.Nat.{_≤_}
 use mathlib.Core.Path.{_≡_, sym, ap}
 use native.Mathlib.Omega.{arith}
 use borrow.Author.Needs.{needs}
 use lib.ListN.{length, List·getD-eq-default}
+use Rattle.word.proofs.Mapped.{long-unmapped}
+use Rattle.address.specs.Limits.{capabilityRoom}
 use Rattle.capability.specs.Declaration.{noCapability}
 use Rattle.capability.specs.declared.declared.Capability.{Capability}
-use Rattle.capability.proofs.Arrays.{long-unmapped}
 use Rattle.capability.proofs.declared.Capabilities.length_at.Statement.{statement}
 use Rattle.capability.proofs.declared.Capabilities.length_at.Tie as tie
 
-long : (c : tie.Start) → length (c .args .t1 .list) ≡ 16
+long : (c : tie.Start) → length (c .args .t1 .list) ≡ capabilityRoom
 long c = search (needs, long-unmapped)
 
 returns : tie.Need-returns

@@ -1,4 +1,4 @@
--- `Capabilities::none`: two arrays of blanks. Assumes nothing.
+-- `Capabilities::none`: two arrays of blanks.
 use borrow.Author.Needs.{needs}
 use Rattle.word.specs.Table.{table}
 use Rattle.capability.specs.Declaration.{noneDeclared}

@@ -1,4 +1,4 @@
--- `Capability::new` refuses exactly the bodies above 253 bytes. Assumes nothing.
+-- `Capability::new` refuses exactly the bodies above 253 bytes.
 use mathlib.Core.Path.{sym}
 use borrow.Author.Needs.{needs}
 use Rattle.capability.proofs.Declarations.{capability-good, capability-bad}
