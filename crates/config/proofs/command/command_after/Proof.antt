@@ -1,11 +1,14 @@
--- `command_after` reads the two command bytes as a store would leave them. Assumes nothing.
+-- `command_after` reads the two command bytes as a store would leave them.
 use Rattle.config.specs.Command.{watched}
 use borrow.Author.Needs.{needs}
-use Rattle.config.proofs.store_leaf.command_after.Statement.{statement}
-use Rattle.config.proofs.store_leaf.command_after.Tie as tie
+use Rattle.config.proofs.command.command_after.Statement.{statement}
+use Rattle.config.proofs.command.command_after.Tie as tie
 
 stored-byte-requires : tie.Need-stored-byte-requires
 stored-byte-requires c κs = search needs
+
+add-stored-byte : tie.Need-add-stored-byte
+add-stored-byte c = search needs
 
 stored-byte-requires-2 : tie.Need-stored-byte-requires-2
 stored-byte-requires-2 c κs = search needs
@@ -19,4 +22,4 @@ returns c = rw (← c .before .before .before .before .stored-byte .ensures, ←
 
 pub command-after-spec : {M : Type 1} → statement M
 command-after-spec =
-    tie.close (tie.spec stored-byte-requires stored-byte-requires-2 command-bits-requires returns)
+    tie.close (tie.spec stored-byte-requires add-stored-byte stored-byte-requires-2 command-bits-requires returns)
