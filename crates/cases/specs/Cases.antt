@@ -25,6 +25,7 @@ use Rattle.capability.specs.declared.placed.PlacedCapability.{PlacedCapability}
 use Rattle.capability.specs.declared.effect_access.Touch.{Touch}
 use Rattle.capability.specs.declared.effect_access.Touch.the-variants as touch
 use Rattle.bar.specs.declared.range.Aperture.{Aperture}
+use Rattle.placement.specs.Examples.{oneAutomatic}
 use Rattle.placement.specs.Answer.{placementOf}
 use Rattle.config.specs.Read.{readOf}
 use Rattle.config.specs.Write.{writeOf}
@@ -33,7 +34,7 @@ use Rattle.config.specs.declared.read_step.ReadAnswer.the-variants as readAnswe
 use Rattle.placement.specs.declared.declared_bars.DeclaredBars.{DeclaredBars}
 use Rattle.placement.specs.declared.answer.PlacementAnswer.{PlacementAnswer}
 use Rattle.placement.specs.declared.answer.PlacementAnswer.the-variants as placementAnswer
-use Rattle.cases.specs.Settings.{declare, effect, withEffect, oneAutomatic, plain, committedAt}
+use Rattle.cases.specs.Settings.{declare, effect, withEffect, plain, committedAt}
 
 -- what document 01 asks
 pub data Question : Type 0 where
