@@ -2,10 +2,13 @@
 ghost use mathlib.Core.Path.{_≡_};
 ghost use Prim.Native.Nat.{_≤_, _<_};
 ghost use Rattle.address.specs.Kinds.{offset};
-ghost use Rattle.capability.specs.Offset.{nextMultiple, capabilityEnd};
+ghost use Rattle.capability.specs.Declaration.{countOf, lengthAt};
+ghost use Rattle.capability.specs.Offset.{nextMultiple, capabilityEnd, offsetAt};
+use crate::declared::Capabilities;
 use crate::placed::CAPABILITY_HEADER_SIZE;
 use address::ConfigOffset;
 use address::OffsetAnswer;
+use address::config_layout::CONFIG_STANDARD_HEADER_END;
 
 pub const CAPABILITY_ALIGNMENT: usize = 4;
 
@@ -26,5 +29,21 @@ pub(crate) fn offset_in(space: u16, value: usize) -> ConfigOffset
     match ConfigOffset::new(space, value) {
         OffsetAnswer::Good(at) => at,
         OffsetAnswer::Bad => ConfigOffset::zero(),
+    }
+}
+
+impl Capabilities {
+    // Where one more capability would start.
+    pub fn next_start(self) -> usize
+        ensures { λ r. ⌜ (r ≡ offsetAt (lengthAt self) (countOf self)) × (r ≤ 0x10000) ⌝ }
+    {
+        let count = self.declared_count();
+        let mut start = CONFIG_STANDARD_HEADER_END;
+        let mut i = 0;
+        while i < count {
+            start = next_offset(start, self.length_at(i));
+            i += 1;
+        }
+        start
     }
 }
