@@ -51,15 +51,14 @@ fn with_ours(plan: &Plan) -> bool {
     })
 }
 
-/// Into the folder that it is run in.
+/// To standard output.
 fn sampled(plan: &Plan) -> bool {
-    for (name, bytes) in driver::sample::files(&mut Oracle, plan.seed) {
-        let file = format!("{name}.stdin");
-        if let Err(why) = std::fs::write(&file, &bytes) {
-            eprintln!("compare: {file}: {why}");
-            return false;
+    let bytes = driver::sample::file(&mut Oracle, plan.seed);
+    match std::io::Write::write_all(&mut std::io::stdout(), &bytes) {
+        Ok(()) => true,
+        Err(why) => {
+            eprintln!("compare: {why}");
+            false
         }
-        println!("{file}: {} bytes", bytes.len());
     }
-    true
 }

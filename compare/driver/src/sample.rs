@@ -1,7 +1,6 @@
-//! Questions and the Rust's answers as numbers in a file, for programs that replay them.
+//! Questions and the Rust's answers as little-endian 64-bit numbers in a file, for the program that replays them.
 //!
-//! A file is records of one length, each of little-endian 64-bit numbers. The first is a header:
-//! the magic number, how many records follow, the seed, then zeros.
+//! First a header: the magic number, how many records follow, the seed. Then the records, each with its kind before it.
 
 use rules::{BarNow, BarWrite, PlaceRefusal, Question, Random, Request, Rules, Wish};
 
@@ -10,7 +9,7 @@ use crate::{inputs::RULES, plan::seed_of};
 /// "vgreplay" in bytes.
 const MAGIC: u64 = u64::from_le_bytes(*b"vgreplay");
 
-/// All three together stay below 400,000 bytes.
+/// All together stay below 450,000 bytes.
 const ACCESSES: usize = 1600;
 const BARS: usize = 3000;
 /// Of each of the five ways that placement can end.
@@ -18,20 +17,18 @@ const PLACEMENTS: usize = 17;
 
 type Record = Vec<u64>;
 
-/// The name of each program and its standard input.
-pub fn files(rust: &mut dyn Rules, seed: u64) -> [(&'static str, Vec<u8>); 3] {
-    [
-        ("replay_access", file(seed, &accesses(rust, seed))),
-        ("replay_bar", file(seed, &bars(rust, seed))),
-        ("replay_place", file(seed, &placements(rust, seed))),
-    ]
-}
-
-fn file(seed: u64, records: &[Record]) -> Vec<u8> {
-    let mut header = vec![MAGIC, records.len() as u64, seed];
-    header.resize(records[0].len(), 0);
-    let numbers = header.iter().chain(records.iter().flatten());
-    numbers.flat_map(|number| number.to_le_bytes()).collect()
+/// The standard input of the program `replay`.
+pub fn file(rust: &mut dyn Rules, seed: u64) -> Vec<u8> {
+    let kinds = [accesses(rust, seed), bars(rust, seed), placements(rust, seed)];
+    let count: usize = kinds.iter().map(Vec::len).sum();
+    let mut numbers = vec![MAGIC, count as u64, seed];
+    for (kind, records) in kinds.iter().enumerate() {
+        for record in records {
+            numbers.push(kind as u64);
+            numbers.extend(record);
+        }
+    }
+    numbers.iter().flat_map(|number| number.to_le_bytes()).collect()
 }
 
 /// Random questions of a rule, without end.

@@ -6,32 +6,33 @@ use Rattle.address.specs.declared.access.Access.{Access}
 use Rattle.address.specs.declared.access.Access.the-variants as access
 use Rattle.address.specs.declared.offset.OffsetAnswer.{OffsetAnswer}
 use Rattle.address.specs.declared.offset.OffsetAnswer.the-variants as offsetAnswer
-use Rattle.capability.specs.Owner.{noEffect}
-use Rattle.capability.specs.Touch.{refusalOf, touchOf}
+use Rattle.capability.specs.Blank.{noPlacedEffect}
+use Rattle.capability.specs.Touch.{touchOf}
+use Rattle.capability.specs.Number.{touchNumber}
 use Rattle.capability.specs.Mode.{byteModeOf}
 use Rattle.capability.specs.declared.placed.Placed.{Placed}
 use Rattle.capability.specs.declared.effect_access.Touch.{Touch}
 use Rattle.capability.specs.declared.effect_access.Touch.the-variants as touch
 use Rattle.capability.specs.declared.byte_mode.ByteMode.{ByteMode}
 use Rattle.capability.specs.declared.byte_mode.ByteMode.the-variants as mode
-use Rattle.config.specs.Read.{readRefusal}
+use Rattle.config.specs.Read.{readNumber}
 use Rattle.config.specs.declared.read_step.ReadAnswer.the-variants as readAnswer
 use Rattle.boundary.specs.declared.effects.Touched.{Touched}
 
 -- inside no effect: all but the refusal is blank
 abbrev pub touchedRefused : ℕ → Touched
-touchedRefused n = record { refusal = n; inside = false; «capability_id» = 0; region = noEffect; offset = 0 }
+touchedRefused n = record { refusal = n; inside = false; «capability_id» = 0; region = noPlacedEffect; offset = 0 }
 
 -- untouched and refused differ by the number alone; an effect is told with "capability id, region, offset from the capability's start"
 abbrev pub touchNumbers : Touch → Touched
-touchNumbers touch.Untouched = touchedRefused (refusalOf touch.Untouched)
+touchNumbers touch.Untouched = touchedRefused (touchNumber touch.Untouched)
 touchNumbers (touch.Effect id region offset) =
-    record { refusal = refusalOf (touch.Effect id region offset); inside = true; «capability_id» = id; region = region; offset = offset }
-touchNumbers touch.Refused = touchedRefused (refusalOf touch.Refused)
+    record { refusal = touchNumber (touch.Effect id region offset); inside = true; «capability_id» = id; region = region; offset = offset }
+touchNumbers touch.Refused = touchedRefused (touchNumber touch.Refused)
 
 -- "Check 18 first."
 abbrev pub touchChecked : Placed → Bool → Access → Touched
-touchChecked p write access.Refused = touchedRefused (readRefusal readAnswer.BadAccess)
+touchChecked p write access.Refused = touchedRefused (readNumber readAnswer.BadAccess)
 touchChecked p write (access.Good o w) = touchNumbers (touchOf p (o .0) w write)
 
 abbrev pub modeNumber : ByteMode → ℕ

@@ -5,11 +5,11 @@ use Rattle.address.specs.declared.slot.SlotAnswer.{SlotAnswer}
 use Rattle.address.specs.declared.slot.SlotAnswer.the-variants as slotAnswer
 use Rattle.bar.specs.declared.bar_state.Relocation.{Relocation}
 use Rattle.bar.specs.declared.bar_state.Relocation.the-variants as bus
-use Rattle.capability.specs.Owner.{noEffect}
+use Rattle.capability.specs.Blank.{noPlacedEffect}
 use Rattle.capability.specs.declared.snapshot.Snapshot.{Snapshot}
-use Rattle.config.specs.Read.{readRefusal}
-use Rattle.config.specs.Write.{writeRefusal, relocatedAt}
-use Rattle.config.specs.Reset.{resetRefusal}
+use Rattle.config.specs.Read.{readNumber}
+use Rattle.config.specs.Write.{writeNumber, relocatedAt}
+use Rattle.config.specs.Reset.{resetNumber}
 use Rattle.config.specs.declared.state.FunctionState.{FunctionState}
 use Rattle.config.specs.declared.read_step.ReadAnswer.{ReadAnswer}
 use Rattle.config.specs.declared.read_step.ReadAnswer.the-variants as read
@@ -25,14 +25,14 @@ use Rattle.boundary.specs.declared.function.ResetOut.{ResetOut}
 -- a read that no effect answers
 abbrev pub readRefused : ℕ → ℕ → Snapshot → ReadOut
 readRefused n v b =
-    record { refusal = n; inside = false; value = v; «capability_id» = 0; region = noEffect; offset = 0; body = b }
+    record { refusal = n; inside = false; value = v; «capability_id» = 0; region = noPlacedEffect; offset = 0; body = b }
 
 abbrev pub readNumbers : Snapshot → ReadAnswer → ReadOut
-readNumbers b (read.Value v) = readRefused (readRefusal (read.Value v)) v b
+readNumbers b (read.Value v) = readRefused (readNumber (read.Value v)) v b
 readNumbers b (read.Effect id region offset) =
-    record { refusal = readRefusal (read.Effect id region offset); inside = true; value = 0; «capability_id» = id; region = region; offset = offset; body = b }
-readNumbers b read.BadAccess = readRefused (readRefusal read.BadAccess) 0 b
-readNumbers b read.BadEffect = readRefused (readRefusal read.BadEffect) 0 b
+    record { refusal = readNumber (read.Effect id region offset); inside = true; value = 0; «capability_id» = id; region = region; offset = offset; body = b }
+readNumbers b read.BadAccess = readRefused (readNumber read.BadAccess) 0 b
+readNumbers b read.BadEffect = readRefused (readNumber read.BadEffect) 0 b
 
 abbrev pub readReplyNumbers : ReadReply → ReadOut
 readReplyNumbers r = readNumbers (r .body) (r .answer)
@@ -50,18 +50,18 @@ kindOf write.Exhausted = 0
 -- a write that no effect answers
 abbrev pub writeBlank : ℕ → ℕ → ℕ → ℕ → Snapshot → FunctionState → WriteOut
 writeBlank n kind slot address b f =
-    record { refusal = n; kind = kind; slot = slot; address = address; «capability_id» = 0; region = noEffect; offset = 0; body = b; state = f }
+    record { refusal = n; kind = kind; slot = slot; address = address; «capability_id» = 0; region = noPlacedEffect; offset = 0; body = b; state = f }
 
 -- an answer with no more to tell than its number and its kind
 abbrev pub writePlain : WriteAnswer → Snapshot → FunctionState → WriteOut
-writePlain a b f = writeBlank (writeRefusal a) (kindOf a) 0 0 b f
+writePlain a b f = writeBlank (writeNumber a) (kindOf a) 0 0 b f
 
 abbrev pub writeNumbers : Snapshot → FunctionState → WriteAnswer → WriteOut
 writeNumbers b f write.Stored = writePlain write.Stored b f
-writeNumbers b f (write.Probing slot) = writeBlank (writeRefusal (write.Probing slot)) (kindOf (write.Probing slot)) slot 0 b f
-writeNumbers b f (write.Candidate slot address) = writeBlank (writeRefusal (write.Candidate slot address)) (kindOf (write.Candidate slot address)) slot address b f
+writeNumbers b f (write.Probing slot) = writeBlank (writeNumber (write.Probing slot)) (kindOf (write.Probing slot)) slot 0 b f
+writeNumbers b f (write.Candidate slot address) = writeBlank (writeNumber (write.Candidate slot address)) (kindOf (write.Candidate slot address)) slot address b f
 writeNumbers b f (write.Effect id region offset) =
-    record { refusal = writeRefusal (write.Effect id region offset); kind = kindOf (write.Effect id region offset); slot = 0; address = 0; «capability_id» = id; region = region; offset = offset; body = b; state = f }
+    record { refusal = writeNumber (write.Effect id region offset); kind = kindOf (write.Effect id region offset); slot = 0; address = 0; «capability_id» = id; region = region; offset = offset; body = b; state = f }
 writeNumbers b f write.BadAccess = writePlain write.BadAccess b f
 writeNumbers b f write.BadEffect = writePlain write.BadEffect b f
 writeNumbers b f write.Exhausted = writePlain write.Exhausted b f
@@ -80,4 +80,4 @@ finished f r (slotAnswer.Good s) = relocatedAt f s r
 finished f r slotAnswer.Bad = f
 
 abbrev pub resetNumbers : ResetDone → ResetOut
-resetNumbers d = record { refusal = resetRefusal (d .answer); state = d .state }
+resetNumbers d = record { refusal = resetNumber (d .answer); state = d .state }

@@ -7,8 +7,12 @@ use Rattle.word.specs.Table.{table}
 use Rattle.address.specs.Layout.{configSpaceSize}
 use Rattle.capability.specs.Size.{bodyMost}
 use Rattle.capability.specs.Effect.{accessOfNumber, effect}
-use Rattle.capability.specs.Declaration.{capabilityLimit, effectLimit, capability, addEffectOf}
-use Rattle.capability.specs.Layout.{layoutNumber, noPlacedEffect, layoutOf}
+use Rattle.capability.specs.Declaration.{capability}
+use Rattle.address.specs.Limits.{limits, capabilityRoom, effectRoom}
+use Rattle.capability.specs.Addition.{addEffectOf}
+use Rattle.capability.specs.Layout.{layoutOf}
+use Rattle.capability.specs.Number.{layoutAnswerNumber}
+use Rattle.capability.specs.Blank.{noPlacedEffect}
 use Rattle.capability.specs.declared.effect.EffectAccess.{EffectAccess}
 use Rattle.capability.specs.declared.effect.EffectAccess.the-variants.{Read}
 use Rattle.capability.specs.declared.effect.AccessAnswer.{AccessAnswer}
@@ -39,19 +43,19 @@ effectOf e = effect (e .id) (e .capability) (e .offset) (e .length) (accessOf (e
 
 -- a body length above the most counts as the most
 unfoldable pub capabilitiesIn : List ℕ → List ℕ → List Capability
-capabilitiesIn ids lengths = table capabilityLimit (λ k. capability (getD ids k 0) (min (getD lengths k 0) bodyMost))
+capabilitiesIn ids lengths = table capabilityRoom (λ k. capability (getD ids k 0) (min (getD lengths k 0) bodyMost))
 
 unfoldable pub effectsIn : List PlacedEffect → List Effect
-effectsIn effects = table effectLimit (λ j. effectOf (getD effects j noPlacedEffect))
+effectsIn effects = table effectRoom (λ j. effectOf (getD effects j noPlacedEffect))
 
 -- the declaration that the numbers say: no count reaches past its array
 unfoldable pub declaredIn : DeclaredNumbers → Capabilities
 declaredIn n =
     record {
       list = capabilitiesIn (n .ids) (n .lengths);
-      count = min (n .count) capabilityLimit;
+      count = min (n .count) capabilityRoom;
       effects = effectsIn (n .effects);
-      «effect_count» = min (n .«effect_count») effectLimit;
+      «effect_count» = min (n .«effect_count») effectRoom;
     }
 
 -- the capability at fault, 0 where there is none
@@ -62,7 +66,7 @@ indexOf (layoutAnswer.PastEnd k) = k
 
 -- document 01's number for an answer, 0 where it is no refusal
 abbrev pub laidOut : LayoutAnswer → Placed → LaidOut
-laidOut a placed = record { refusal = layoutNumber a; index = indexOf a; placed = placed }
+laidOut a placed = record { refusal = layoutAnswerNumber a; index = indexOf a; placed = placed }
 
 abbrev pub outOf : LayoutDone → LaidOut
 outOf d = laidOut (d .answer) (d .placed)
@@ -78,4 +82,4 @@ isAdded effectAdded.Bad = false
 
 -- refusal 11: the effect's own capability index is not asked, it is the latest one
 unfoldable pub effectOk : DeclaredNumbers → List ℕ → PlacedEffect → Bool
-effectOk n mask e = isAdded (addEffectOf mask (declaredIn n) (e .id) (e .offset) (e .length) (accessOf (e .access)) .answer)
+effectOk n mask e = isAdded (addEffectOf limits mask (declaredIn n) (e .id) (e .offset) (e .length) (accessOf (e .access)) .answer)

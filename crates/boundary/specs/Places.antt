@@ -12,7 +12,7 @@ use Rattle.bar.specs.declared.memory_bar.Request.the-variants.{Auto, Fixed}
 use Rattle.bar.specs.declared.memory_bar.MemoryBar.{MemoryBar}
 use Rattle.bar.specs.declared.memory_bar.BarAnswer.{BarAnswer}
 use Rattle.bar.specs.declared.memory_bar.BarAnswer.the-variants.{Good, Bad}
-use Rattle.placement.specs.Limits.{functionLimit}
+use Rattle.address.specs.Limits.{functionRoom}
 use Rattle.placement.specs.Answer.{placementOf}
 use Rattle.placement.specs.declared.declared_bars.FunctionBars.{FunctionBars}
 use Rattle.placement.specs.declared.declared_bars.DeclaredBars.{DeclaredBars}
@@ -43,7 +43,7 @@ abbrev pub functionIn : PlaceNumbers → ℕ → FunctionBars
 functionIn n i = record { device = getD (n .devices) i 0; count = barCount; bars = barsIn n i }
 
 unfoldable pub functionsIn : PlaceNumbers → List FunctionBars
-functionsIn n = table functionLimit (functionIn n)
+functionsIn n = table functionRoom (functionIn n)
 
 -- the declaration that the numbers say
 abbrev pub declaredBars : PlaceNumbers → DeclaredBars

@@ -3,11 +3,13 @@ ghost use mathlib.Core.Path.{_≡_};
 ghost use Rattle.config.specs.ConfigByte.{byteCheckOf};
 ghost use Rattle.config.specs.PowerOn.{powerOnOf};
 ghost use Rattle.boundary.specs.Contents.{intxOf, contentsOf, byteNumber};
+ghost use Rattle.address.specs.Layout.{configSpaceSize};
+use address::config_layout;
 use crate::function::Bars;
 use capability::Placed;
 use config::BODY_SPACE;
 use config::ByteCheck;
-use config::CONFIG_BYTE_LIMIT;
+use address::limits::CONFIG_BYTE_LIMIT;
 use config::ConfigByte;
 use config::Contents;
 use config::Identity;
@@ -58,7 +60,7 @@ fn contents_of(contents: ContentsNumbers) -> Contents
 // The image and the write masks at power-on.
 #[no_mangle]
 pub extern "C" fn vg_power_on(contents: ContentsNumbers, bars: Bars, placed: Placed) -> PowerOn
-    ensures { λ r. ⌜ r ≡ powerOnOf (contentsOf contents) (bars .bars) placed ⌝ }
+    ensures { λ r. ⌜ r ≡ powerOnOf configSpaceSize (contentsOf contents) (bars .bars) placed ⌝ }
 {
     let states = bars.bars;
     PowerOn::build(contents_of(contents), states, placed)
@@ -67,9 +69,9 @@ pub extern "C" fn vg_power_on(contents: ContentsNumbers, bars: Bars, placed: Pla
 // The index of the first config byte that refusal 9 is given for; 32 where there is none.
 #[no_mangle]
 pub extern "C" fn vg_config_bytes(contents: ContentsNumbers, placed: Placed) -> usize
-    ensures { λ r. ⌜ r ≡ byteNumber (byteCheckOf (contentsOf contents) placed) ⌝ }
+    ensures { λ r. ⌜ r ≡ byteNumber (byteCheckOf configSpaceSize (contentsOf contents) placed) ⌝ }
 {
-    match check_config_bytes(contents_of(contents), placed) {
+    match check_config_bytes(config_layout::CONFIG_SPACE_SIZE, contents_of(contents), placed) {
         ByteCheck::Good => CONFIG_BYTE_LIMIT,
         ByteCheck::Bad(i) => i,
     }

@@ -3,8 +3,9 @@ ghost use mathlib.Core.Path.{_≡_};
 ghost use Rattle.address.specs.Kinds.{slotOf};
 ghost use Rattle.config.specs.Read.{readOf};
 ghost use Rattle.config.specs.Write.{writeOf};
-ghost use Rattle.config.specs.Reset.{resetDone, resetRefusal, startOf};
+ghost use Rattle.config.specs.Reset.{resetDone, resetNumber};
 ghost use Rattle.boundary.specs.Function.{readRefused, readNumbers, readReplyNumbers, writeBlank, writeNumbers, writeDoneNumbers, relocation, finished, resetNumbers};
+ghost use Rattle.config.specs.Start.{powerOnState};
 use crate::blank::no_region;
 use crate::refusal::ACCESS_REFUSED;
 use crate::refusal::EFFECT_REFUSED;
@@ -16,7 +17,7 @@ use bar::Relocation;
 use capability::Placed;
 use capability::PlacedEffect;
 use capability::Snapshot;
-use config::BAR_SLOTS;
+use address::limits::BAR_SLOTS;
 use config::FunctionState;
 use config::PowerOn;
 use config::ReadAnswer;
@@ -72,7 +73,7 @@ pub struct ResetOut {
 // The state of a function at power-on.
 #[no_mangle]
 pub extern "C" fn vg_start(power_on: PowerOn, bars: Bars, placed: Placed) -> FunctionState
-    ensures { λ r. ⌜ r ≡ startOf «power_on» (bars .bars) placed ⌝ }
+    ensures { λ r. ⌜ r ≡ powerOnState «power_on» (bars .bars) placed ⌝ }
 {
     let states = bars.bars;
     FunctionState::new(power_on, states, placed)
@@ -228,7 +229,7 @@ pub extern "C" fn vg_finish(
 }
 
 fn reset_refusal(answer: ResetAnswer) -> u8
-    ensures { λ r. ⌜ r ≡ resetRefusal answer ⌝ }
+    ensures { λ r. ⌜ r ≡ resetNumber answer ⌝ }
 {
     match answer {
         ResetAnswer::Restored => 0,

@@ -7,11 +7,11 @@ ghost use Rattle.boundary.specs.Lists.{accessOf, effectOf, capabilitiesI
 use address::config_layout::CONFIG_SPACE_SIZE;
 use capability::AccessAnswer;
 use capability::CAPABILITY_BODY_MAX_SIZE;
-use capability::CAPABILITY_LIMIT;
+use address::limits::CAPABILITY_LIMIT;
 use capability::Capabilities;
 use capability::Capability;
 use capability::CapabilityAnswer;
-use capability::EFFECT_LIMIT;
+use address::limits::EFFECT_LIMIT;
 use capability::Effect;
 use capability::EffectAccess;
 use capability::EffectAdded;

@@ -3,21 +3,21 @@ ghost use mathlib.Core.Path.{_≡_};
 ghost use Prim.Native.Nat.{_<_};
 ghost use Rattle.address.specs.Layout.{barCount};
 ghost use Rattle.address.specs.Kinds.{slot};
-ghost use Rattle.placement.specs.Limits.{functionLimit};
+ghost use Rattle.address.specs.Limits.{functionRoom};
 ghost use Rattle.boundary.specs.Places.{requestOf, barIn, barsIn, functionIn, functionsIn, declaredBars, placedOut, placeOf};
 use address::Slot;
 use address::SlotAnswer;
+use address::limits::BAR_SLOTS;
+use address::limits::FUNCTION_LIMIT;
 use bar::Aperture;
 use bar::BarAnswer;
 use bar::MemoryBar;
 use bar::Request;
-use placement::BAR_LIMIT;
 use placement::DeclaredBars;
-use placement::FUNCTION_LIMIT;
 use placement::FunctionBars;
+use placement::KEY_COUNT;
 use placement::Placement;
 use placement::PlacementAnswer;
-use placement::SLOTS;
 use placement::resolve_bar_addresses;
 
 // The aperture, and the BARs of `count` functions: place `i * 6 + slot` of an array is that slot of function i, and a size of 0 is no BAR.
@@ -27,9 +27,9 @@ pub struct PlaceNumbers {
     pub end: u64,
     pub count: usize,
     pub devices: [u8; FUNCTION_LIMIT],
-    pub sizes: [u64; BAR_LIMIT],
-    pub fixed: [bool; BAR_LIMIT],
-    pub addresses: [u64; BAR_LIMIT],
+    pub sizes: [u64; KEY_COUNT],
+    pub fixed: [bool; KEY_COUNT],
+    pub addresses: [u64; KEY_COUNT],
 }
 
 // Refusal 0 where all are placed; else 14 to 17, with the device and the slot, and no address.
@@ -38,7 +38,7 @@ pub struct PlacedOut {
     pub refusal: u8,
     pub device: u8,
     pub slot: u8,
-    pub addresses: [u64; BAR_LIMIT],
+    pub addresses: [u64; KEY_COUNT],
 }
 
 fn slot_at(index: usize) -> Slot
@@ -62,13 +62,13 @@ fn request_of(fixed: bool, address: u64) -> Request
 
 // The BAR at a slot of a function.
 fn bar_in(request: PlaceNumbers, function: usize, slot: usize) -> MemoryBar
-    requires { ⌜ (function < functionLimit) × (slot < barCount) ⌝ }
+    requires { ⌜ (function < functionRoom) × (slot < barCount) ⌝ }
     ensures { λ r. ⌜ r ≡ barIn request function slot ⌝ }
 {
     let sizes = request.sizes;
     let fixed = request.fixed;
     let addresses = request.addresses;
-    let key = function * SLOTS + slot;
+    let key = function * BAR_SLOTS + slot;
     let asked = request_of(fixed[key], addresses[key]);
     match MemoryBar::new(slot_at(slot), sizes[key], asked) {
         BarAnswer::Good(bar) => bar,
@@ -76,14 +76,14 @@ fn bar_in(request: PlaceNumbers, function: usize, slot: usize) -> MemoryBar
     }
 }
 
-fn bars_in(request: PlaceNumbers, function: usize) -> [MemoryBar; SLOTS]
-    requires { ⌜ function < functionLimit ⌝ }
+fn bars_in(request: PlaceNumbers, function: usize) -> [MemoryBar; BAR_SLOTS]
+    requires { ⌜ function < functionRoom ⌝ }
     ensures { λ r. ⌜ r ≡ barsIn request function ⌝ }
 {
     let none = MemoryBar::none();
-    let mut bars = [none; SLOTS];
+    let mut bars = [none; BAR_SLOTS];
     let mut slot = 0;
-    while slot < SLOTS {
+    while slot < BAR_SLOTS {
         let bar = bar_in(request, function, slot);
         bars[slot] = bar;
         slot += 1;
@@ -92,13 +92,13 @@ fn bars_in(request: PlaceNumbers, function: usize) -> [MemoryBar; SLOTS]
 }
 
 fn function_in(request: PlaceNumbers, function: usize) -> FunctionBars
-    requires { ⌜ function < functionLimit ⌝ }
+    requires { ⌜ function < functionRoom ⌝ }
     ensures { λ r. ⌜ r ≡ functionIn request function ⌝ }
 {
     let devices = request.devices;
     FunctionBars {
         device: devices[function],
-        count: SLOTS,
+        count: BAR_SLOTS,
         bars: bars_in(request, function),
     }
 }

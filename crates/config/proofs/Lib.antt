@@ -1,13 +1,19 @@
 -- The laws that the crates above cite.
 pub mod Fields
-pub mod PowerOns
+pub mod Stages
+pub mod Standing
+pub mod Copies
+pub mod Layings
 pub mod Placeable
 pub mod Places
-pub mod Ranges
-pub mod ByteImages
-pub mod Chains
 pub mod Images
-pub mod Fits
+pub mod Ranges
+pub mod Headers
+pub mod Identities
+pub mod Listed
+pub mod CommandMasks
+pub mod Chains
+pub mod ByteImages
 pub mod Slots
 pub mod Commands
 pub mod Resets

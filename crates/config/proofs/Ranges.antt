@@ -1,34 +1,55 @@
--- Every byte of the power-on image and of the masks is below 256. Assumes nothing.
-use Prim.Native.Nat.{ℕ, zero, suc, _<_}
-use mathlib.Core.Bool.{true, false}
-use mathlib.Core.List.{List, _∷_}
+-- Every byte of the power-on image and of the masks is below 256: so is every byte of each field.
+use Prim.Native.Nat.{ℕ, _<_}
+use mathlib.Core.Bool.{true, false, cond}
+use mathlib.Core.List.{List, [], _∷_, _++_}
 use mathlib.Core.Logic.{⊎-elim}
 use mathlib.Core.Path.{_≡_}
 use native.Mathlib.Nat.{mod-lt}
 use native.Mathlib.Omega.{arith}
 use lib.Dec.{eqb}
 use lib.ListN.{getD}
-use Rattle.address.specs.Layout.{configSpaceSize}
+use Rattle.address.specs.Layout.{barCount}
 use Rattle.word.proofs.Tests.{true-or-false}
 use Rattle.bar.specs.declared.bar_state.BarState.{BarState}
+use Rattle.capability.specs.Owner.{capabilityCount}
 use Rattle.capability.specs.declared.placed.Placed.{Placed}
-use Rattle.config.specs.Field.{Field, at}
-use Rattle.config.specs.PowerOn.{intxFields, configFields, barField, barFields, capabilityCount, listFields, capabilityFields, capabilityMasks, powerOnOf}
+use Rattle.config.specs.ConfigByte.{byteCount}
+use Rattle.config.specs.Field.{Field, at, has, byteAt, under, fieldsBelow}
+use Rattle.config.specs.PowerOn.{intxFields, configFields, barField, barFields, listFields, capabilityFields, capabilityMasks, powerOnOf}
 use Rattle.config.specs.State.{barAt}
 use Rattle.config.specs.declared.function.ConfigByte.{ConfigByte}
 use Rattle.config.specs.declared.function.Contents.{Contents}
 use Rattle.config.specs.declared.function.Intx.{Intx}
 use Rattle.config.specs.declared.function.Intx.the-variants.{Absent, Pin}
-use Rattle.config.proofs.Fields.{Bytes, none, more, bytes-append, under-byte}
+use Rattle.config.proofs.Fields.{under-end, under-more}
+use Rattle.config.proofs.Stages.{stage-by}
 use Rattle.config.proofs.Images.{image-byte, mask-byte}
+
+-- fields whose bytes are bytes
+data Bytes : List Field → Type 0 where
+  none : Bytes []
+  more : {f : Field} {fs : List Field} → ((j : ℕ) → byteAt f j < 256) → Bytes fs → Bytes (f ∷ fs)
+
+bytes-append : {fs gs : List Field} → Bytes fs → Bytes gs → Bytes (fs ++ gs)
+bytes-append none c = c
+bytes-append (more h b) c = more h (bytes-append b c)
+
+under-byte : (b : ℕ) {fs : List Field} (j : ℕ) → Bytes fs → b < 256 → under b fs j < 256
+under-byte b j none h = rw (under-end b j) h
+under-byte b j (more {f} {fs} k c) h =
+    rw (under-more b f fs j)
+    (under-byte (cond (has f j) (byteAt f j) b) j c
+    (⊎-elim (λ (t : has f j ≡ true). rw t (k j)) (λ (t : has f j ≡ false). rw t h) (true-or-false (has f j))))
 
 at-bytes : {o w v : ℕ} {fs : List Field} → Bytes fs → Bytes (at o w v ∷ fs)
 at-bytes {o} {w} {v} b = more (λ j. mod-lt _ (omega arith)) b
 
+-- and those of a stage
+stage-bytes : (f : ℕ → List Field) → ((i : ℕ) → Bytes (f i)) → (n : ℕ) → Bytes (fieldsBelow f n)
+stage-bytes f h n = stage-by f Bytes none (λ fs gs a b. bytes-append a b) h n
+
 config-bytes : (g : ConfigByte → ℕ) (bytes : List ConfigByte) (n : ℕ) → Bytes (configFields g bytes n)
-unfolding configFields
-config-bytes g bytes zero = none
-config-bytes g bytes (suc n) = bytes-append (config-bytes g bytes n) (at-bytes none)
+config-bytes g bytes n = stage-bytes _ (λ i. at-bytes none) n
 
 intx-bytes : (x : Intx) → Bytes (intxFields x)
 intx-bytes Absent = none
@@ -39,9 +60,7 @@ bar-bytes b n =
     ⊎-elim (λ (t : eqb (b .plan .size) 0 ≡ true). rw t none) (λ (t : eqb (b .plan .size) 0 ≡ false). rw t (at-bytes none)) (true-or-false (eqb (b .plan .size) 0))
 
 bars-bytes : (bars : List BarState) (n : ℕ) → Bytes (barFields bars n)
-unfolding barFields
-bars-bytes bars zero = none
-bars-bytes bars (suc n) = bytes-append (bars-bytes bars n) (bar-bytes (barAt bars n) n)
+bars-bytes bars n = stage-bytes _ (λ i. bar-bytes (barAt bars i) i) n
 
 list-bytes : (p : Placed) → Bytes (listFields p)
 list-bytes p =
@@ -49,22 +68,18 @@ list-bytes p =
 
 module _ (p : Placed) (bytes : List ℕ) (h : (k : ℕ) → getD bytes k 0 < 256) where
   capability-bytes : (n : ℕ) → Bytes (capabilityFields p bytes n)
-  unfolding capabilityFields
-  capability-bytes zero = none
-  capability-bytes (suc n) = bytes-append (capability-bytes n) (at-bytes (at-bytes (more (λ j. h _) none)))
+  capability-bytes n = stage-bytes _ (λ i. at-bytes (at-bytes (more (λ j. h _) none))) n
 
   masks-bytes : (n : ℕ) → Bytes (capabilityMasks p bytes n)
-  unfolding capabilityMasks
-  masks-bytes zero = none
-  masks-bytes (suc n) = bytes-append (masks-bytes n) (more (λ j. h _) none)
+  masks-bytes n = stage-bytes _ (λ i. more (λ j. h _) none) n
 
-module _ (f : Contents) (bars : List BarState) (p : Placed) (j : ℕ) (b : j < configSpaceSize) where
-  pub image-lt : ((k : ℕ) → getD (f .bodies) k 0 < 256) → getD (powerOnOf f bars p .image) j 0 < 256
+module _ (space : ℕ) (f : Contents) (bars : List BarState) (p : Placed) (j : ℕ) (b : j < space) where
+  pub image-lt : ((k : ℕ) → getD (f .bodies) k 0 < 256) → getD (powerOnOf space f bars p .image) j 0 < 256
   image-lt h =
-      rw (image-byte f bars p j b)
-      (under-byte 0 j (bytes-append (at-bytes (at-bytes (at-bytes (at-bytes (at-bytes (at-bytes (at-bytes (at-bytes (at-bytes none))))))))) (bytes-append (intx-bytes (f .intx)) (bytes-append (config-bytes _ (f .bytes) _) (bytes-append (bars-bytes bars _) (bytes-append (list-bytes p) (capability-bytes p (f .bodies) h _)))))) (omega arith))
+      rw (image-byte space f bars p j b)
+      (under-byte 0 j (bytes-append (at-bytes (at-bytes (at-bytes (at-bytes (at-bytes (at-bytes (at-bytes (at-bytes (at-bytes none))))))))) (bytes-append (intx-bytes (f .intx)) (bytes-append (config-bytes (λ b. b .value) (f .bytes) (byteCount f)) (bytes-append (bars-bytes bars barCount) (bytes-append (list-bytes p) (capability-bytes p (f .bodies) h (capabilityCount p))))))) (omega arith))
 
-  pub mask-lt : ((k : ℕ) → getD (f .masks) k 0 < 256) → getD (powerOnOf f bars p .mask) j 0 < 256
+  pub mask-lt : ((k : ℕ) → getD (f .masks) k 0 < 256) → getD (powerOnOf space f bars p .mask) j 0 < 256
   mask-lt h =
-      rw (mask-byte f bars p j b)
-      (under-byte 0 j (bytes-append (at-bytes (at-bytes none)) (bytes-append (config-bytes _ (f .bytes) _) (masks-bytes p (f .masks) h _))) (omega arith))
+      rw (mask-byte space f bars p j b)
+      (under-byte 0 j (bytes-append (at-bytes (at-bytes none)) (bytes-append (config-bytes (λ b. b .mask) (f .bytes) (byteCount f)) (masks-bytes p (f .masks) h (capabilityCount p)))) (omega arith))

@@ -1,19 +1,18 @@
--- Reads, by where they go. Assumes nothing.
-use Prim.Native.Nat.{ℕ, _-_, _<_, _≤_}
-use mathlib.Core.Bool.{true, false, cond}
-use mathlib.Core.List.{List, [], _∷_}
-use mathlib.Core.Path.{_≡_, refl, sym, _∙_}
+-- Reads, by where they go.
+use Prim.Native.Nat.{ℕ}
+use mathlib.Core.Bool.{true, false}
+use mathlib.Core.List.{List}
+use mathlib.Core.Path.{_≡_}
 use native.Mathlib.Nat.{sub-zero}
 use native.Mathlib.Omega.{arith}
-use lib.ListN.{length, getD}
-use Rattle.word.specs.Table.{table}
+use lib.ListN.{length}
 use Rattle.word.specs.Number.{byteOf, bytesOf}
 use Rattle.word.specs.Store.{putByte, putOf}
-use Rattle.word.proofs.Tests.{covers-in}
+use Rattle.word.proofs.Intervals.{covers-in}
 use Rattle.word.proofs.Tables.{table-ext}
 use Rattle.capability.specs.Touch.{touchOf}
 use Rattle.config.specs.State.{inBar, noBody}
-use Rattle.config.specs.Read.{readReply, registerBytes, readTouched, readGood, readOf}
+use Rattle.config.specs.Read.{readReply, registerBytes, readTouched, readGood}
 use Rattle.config.specs.declared.state.FunctionState.{FunctionState}
 use Rattle.config.specs.declared.read_step.ReadAnswer.the-variants.{Value}
 

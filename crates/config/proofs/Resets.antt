@@ -1,16 +1,14 @@
--- What a reset of a function leaves. Assumes nothing.
-use Prim.Native.Nat.{ℕ, _+_, _<_, _≤_, min}
-use mathlib.Core.Bool.{true, false}
-use mathlib.Core.List.{List, map}
-use mathlib.Core.Path.{_≡_, refl}
+-- What a reset of a function leaves.
+use Prim.Native.Nat.{ℕ, _+_, _<_, min}
+use mathlib.Core.List.{map}
+use mathlib.Core.Path.{_≡_}
 use borrow.Author.Tests.{eq-eqb, ne-eqb}
 use native.Mathlib.Omega.{arith}
 use Rattle.bar.specs.State.{resetOf}
 use Rattle.config.specs.Command.{largestRevision}
-use Rattle.config.specs.Reset.{restored, resetDone}
+use Rattle.config.specs.Reset.{resetDone}
 use Rattle.config.specs.declared.state.FunctionState.{FunctionState}
 use Rattle.config.specs.declared.reset_step.ResetAnswer.the-variants.{Restored, Exhausted}
-use Rattle.config.specs.declared.reset_step.ResetDone.{ResetDone}
 
 abbrev done-with : FunctionState → ℕ → FunctionState
 done-with f n = record { live = f .«power_on»; «power_on» = f .«power_on»; mask = f .mask; bars = map resetOf (f .bars); placed = f .placed; revision = n }

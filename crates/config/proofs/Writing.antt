@@ -1,7 +1,7 @@
--- Writes, by where they go. Assumes nothing.
+-- Writes, by where they go.
 use Prim.Native.Nat.{ℕ, _%_}
-use mathlib.Core.Bool.{Bool, true, false}
-use mathlib.Core.Path.{_≡_, refl}
+use mathlib.Core.Bool.{true, false}
+use mathlib.Core.Path.{_≡_}
 use Rattle.word.specs.Store.{stored}
 use Rattle.address.specs.Layout.{barRegisterSize}
 use Rattle.bar.specs.State.{asks, probed}

@@ -1,11 +1,13 @@
 -- Where config bytes may stand: refusal 9 of document 01.
-use Prim.Native.Nat.{ℕ, min}
+use Prim.Native.Nat.{ℕ, _<_, min}
 use mathlib.Core.Bool.{Bool, true, false, not, _&&_, _||_}
+use mathlib.Core.Path.{_≡_}
 use lib.Dec.{eqb, leb, ltb}
 use lib.ListN.{length, getD}
+use Rattle.refusal.specs.Number.{accepted, badConfigByte}
 use Rattle.address.specs.Kinds.{offset}
-use Rattle.address.specs.Layout.{configSpaceSize, cacheLineSize, latencyTimer, interruptLine, standardHeaderEnd}
-use Rattle.capability.specs.First.{firstOf}
+use Rattle.address.specs.Layout.{cacheLineSize, latencyTimer, interruptLine, standardHeaderEnd}
+use Rattle.word.specs.Search.{firstOf}
 use Rattle.capability.specs.Mode.{holderOf}
 use Rattle.capability.specs.declared.byte_mode.Holder.{Holder}
 use Rattle.capability.specs.declared.byte_mode.Holder.the-variants as holder
@@ -35,19 +37,24 @@ abbrev pub nobody : Holder → Bool
 nobody holder.Nobody = true
 nobody (holder.Capability i) = false
 
--- "or in 0x40 to 0xff outside every capability"
-unfoldable pub byteOk : Placed → ℕ → Bool
-byteOk p o = headerByte o || (leb standardHeaderEnd o && (ltb o configSpaceSize && nobody (holderOf p o)))
+-- "or in 0x40 to 0xff outside every capability", of a config space of `space` bytes
+unfoldable pub byteOk : ℕ → Placed → ℕ → Bool
+byteOk space p o = headerByte o || (leb standardHeaderEnd o && (ltb o space && nobody (holderOf p o)))
 
 -- whether the config byte at an index is refused
-abbrev pub byteBad : Contents → Placed → ℕ → Bool
-byteBad f p i = not (byteOk p (byteOffset f i))
+abbrev pub byteBad : ℕ → Contents → Placed → ℕ → Bool
+byteBad space f p i = not (byteOk space p (byteOffset f i))
 
 -- the first config byte that is, by its index
-unfoldable pub byteCheckOf : Contents → Placed → ByteCheck
-byteCheckOf f p = firstOf byteCheck.Bad byteCheck.Good (byteBad f p) (byteCount f)
+unfoldable pub byteCheckOf : ℕ → Contents → Placed → ByteCheck
+byteCheckOf space f p = firstOf byteCheck.Bad byteCheck.Good (byteBad space f p) (byteCount f)
 
--- document 01's number for each answer, 0 where nothing is refused
-abbrev pub byteRefusal : ByteCheck → ℕ
-byteRefusal byteCheck.Good = 0
-byteRefusal (byteCheck.Bad i) = 9
+-- document 01's number for each answer
+abbrev pub byteCheckNumber : ByteCheck → ℕ
+byteCheckNumber byteCheck.Good = accepted
+byteCheckNumber (byteCheck.Bad i) = badConfigByte
+
+-- "the later of two at one offset wins": the last config byte at its offset
+pub record Last (f : Contents) (i : ℕ) : Type 0 where
+  pub below : i < byteCount f
+  pub alone : (k : ℕ) → i < k → k < byteCount f → byteOffset f i ≡ byteOffset f k → ⊥

@@ -1,9 +1,10 @@
 -- An image said by fields: each has its place and its bytes, the later of two at one place wins, and what no field covers stays.
-use Prim.Native.Nat.{ℕ, _-_}
+use Prim.Native.Nat.{ℕ, zero, suc, _-_}
 use mathlib.Core.Bool.{Bool, cond}
-use mathlib.Core.List.{List, [], _∷_}
+use mathlib.Core.List.{List, [], _∷_, _++_}
 use lib.ListN.{length, getD}
-use Rattle.word.specs.Number.{byteOf, covers}
+use Rattle.word.specs.Number.{byteOf}
+use Rattle.word.specs.Interval.{covers}
 use Rattle.word.specs.Table.{table}
 
 pub data Field : Type 0 where
@@ -34,3 +35,8 @@ laid bytes fs = table (length bytes) (λ j. under (getD bytes j 0) fs j)
 -- an image of n bytes that has these fields; "everything else is zero"
 unfoldable pub imageOf : ℕ → List Field → List ℕ
 imageOf n fs = table n (under 0 fs)
+
+-- the fields that f gives for each number below n, in order
+unfoldable pub fieldsBelow : (ℕ → List Field) → ℕ → List Field
+fieldsBelow f zero = []
+fieldsBelow f (suc n) = fieldsBelow f n ++ f n

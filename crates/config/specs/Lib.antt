@@ -3,7 +3,11 @@ pub mod Field
 pub mod PowerOn
 pub mod ConfigByte
 pub mod State
+pub mod Space
+pub mod Admitted
+pub mod Start
 pub mod Command
 pub mod Read
 pub mod Write
 pub mod Reset
+pub mod Same

@@ -1,18 +1,19 @@
 -- The power-on image and the write masks of a function, as fields in document 01's order ("Power-on image").
-use Prim.Native.Nat.{ℕ, zero, suc, _+_}
+use Prim.Native.Nat.{ℕ, _+_}
 use mathlib.Core.Bool.{cond}
 use mathlib.Core.List.{List, [], _∷_, _++_}
 use lib.Dec.{eqb}
-use lib.ListN.{length, getD}
+use lib.ListN.{getD}
 use Rattle.address.specs.Layout as layout
 use Rattle.address.specs.Kinds.{slot, registerOf}
 use Rattle.bar.specs.Register.{committed}
 use Rattle.bar.specs.declared.bar_state.BarState.{BarState}
 use Rattle.capability.specs.Size.{headerSize}
-use Rattle.capability.specs.Owner.{capabilitiesOf, capabilityAt}
+use Rattle.capability.specs.Owner.{capabilityCount, capabilityAt, startOf}
 use Rattle.capability.specs.declared.placed.Placed.{Placed}
 use Rattle.config.specs.ConfigByte.{noConfigByte, byteCount}
-use Rattle.config.specs.Field.{Field, at, part, imageOf}
+use Rattle.config.specs.Field.{Field, at, part, imageOf, fieldsBelow}
+use Rattle.config.specs.Command.{commandLow, commandHigh}
 use Rattle.config.specs.State.{barAt}
 use Rattle.config.specs.declared.function.Identity.{Identity}
 use Rattle.config.specs.declared.function.Intx.{Intx}
@@ -45,17 +46,16 @@ abbrev pub pinOf : Intx → ℕ
 pinOf Absent = 0
 pinOf (Pin pin line) = pin
 
--- "Masks: 0x06 at 0x04, 0x04 at 0x05."
+-- the command bits that are writable
 abbrev pub commandFields : List Field
-commandFields = at layout.command 1 (layout.memorySpaceEnable + layout.busMasterEnable) ∷ at (layout.command + 1) 1 layout.interruptDisable ∷ []
+commandFields = at layout.command 1 commandLow ∷ at (layout.command + 1) 1 commandHigh ∷ []
 
 -- "Config bytes come next and win over INTx at 0x3c; the later of two at one offset wins": the first n, each with its value or its mask
 abbrev pub configField : (ConfigByte → ℕ) → ConfigByte → Field
 configField f b = at (b .offset .0) 1 (f b)
 
-unfoldable pub configFields : (ConfigByte → ℕ) → List ConfigByte → ℕ → List Field
-configFields f bytes zero = []
-configFields f bytes (suc n) = configFields f bytes n ++ (configField f (getD bytes n noConfigByte) ∷ [])
+abbrev pub configFields : (ConfigByte → ℕ) → List ConfigByte → ℕ → List Field
+configFields f bytes n = fieldsBelow (λ i. configField f (getD bytes i noConfigByte) ∷ []) n
 
 abbrev pub byteValues : Contents → ℕ → List Field
 byteValues f n = configFields (λ b. b .value) (f .bytes) n
@@ -65,40 +65,29 @@ byteMasks f n = configFields (λ b. b .mask) (f .bytes) n
 
 -- "Then BAR addresses": the first n slots, where there is a BAR
 abbrev pub barField : BarState → ℕ → List Field
-barField b n = cond (eqb (b .plan .size) 0) [] (at (registerOf (slot n)) 4 (committed (b .plan .address)) ∷ [])
+barField b n = cond (eqb (b .plan .size) 0) [] (at (registerOf (slot n)) layout.barRegisterSize (committed (b .plan .address)) ∷ [])
 
-unfoldable pub barFields : List BarState → ℕ → List Field
-barFields bars zero = []
-barFields bars (suc n) = barFields bars n ++ barField (barAt bars n) n
-
--- how many capabilities there are: as many as are counted and kept
-abbrev pub capabilityCount : Placed → ℕ
-capabilityCount p = length (capabilitiesOf p)
-
--- where the capability at an index starts, 0 past the last
-abbrev pub startAt : Placed → ℕ → ℕ
-startAt p i = capabilityAt p i .offset .0
+abbrev pub barFields : List BarState → ℕ → List Field
+barFields bars n = fieldsBelow (λ i. barField (barAt bars i) i) n
 
 -- "With any capability, status gets 0x10 and 0x34 the first offset."
 abbrev pub listFields : Placed → List Field
 listFields p =
-    cond (eqb (capabilityCount p) 0) [] (at layout.status 1 layout.capabilitiesList ∷ at layout.capabilityPointer 1 (startAt p 0) ∷ [])
+    cond (eqb (capabilityCount p) 0) [] (at layout.status 1 layout.capabilitiesList ∷ at layout.capabilityPointer 1 (startOf p 0) ∷ [])
 
 -- the body of a capability, or its masks: both lie at their places from 0x40 on
 abbrev pub bodyField : Placed → List ℕ → ℕ → Field
-bodyField p bytes i = part (startAt p i + headerSize) (capabilityAt p i .length) layout.standardHeaderEnd bytes
+bodyField p bytes i = part (startOf p i + headerSize) (capabilityAt p i .length) layout.standardHeaderEnd bytes
 
 -- "At each capability: id, next offset or 0, body, masks": the first n
 abbrev pub headerFields : Placed → ℕ → List Field
-headerFields p i = at (startAt p i) 1 (capabilityAt p i .id) ∷ at (startAt p i + 1) 1 (startAt p (i + 1)) ∷ []
+headerFields p i = at (startOf p i) 1 (capabilityAt p i .id) ∷ at (startOf p i + 1) 1 (startOf p (i + 1)) ∷ []
 
-unfoldable pub capabilityFields : Placed → List ℕ → ℕ → List Field
-capabilityFields p bodies zero = []
-capabilityFields p bodies (suc n) = capabilityFields p bodies n ++ (headerFields p n ++ (bodyField p bodies n ∷ []))
+abbrev pub capabilityFields : Placed → List ℕ → ℕ → List Field
+capabilityFields p bodies n = fieldsBelow (λ i. headerFields p i ++ (bodyField p bodies i ∷ [])) n
 
-unfoldable pub capabilityMasks : Placed → List ℕ → ℕ → List Field
-capabilityMasks p masks zero = []
-capabilityMasks p masks (suc n) = capabilityMasks p masks n ++ (bodyField p masks n ∷ [])
+abbrev pub capabilityMasks : Placed → List ℕ → ℕ → List Field
+capabilityMasks p masks n = fieldsBelow (λ i. bodyField p masks i ∷ []) n
 
 -- the image: identity, INTx, config bytes, BAR addresses, capabilities
 abbrev pub imageFields : Contents → List BarState → Placed → List Field
@@ -114,6 +103,6 @@ abbrev pub maskFields : Contents → Placed → List Field
 maskFields f p =
     commandFields ++ (byteMasks f (byteCount f) ++ capabilityMasks p (f .masks) (capabilityCount p))
 
-unfoldable pub powerOnOf : Contents → List BarState → Placed → PowerOn
-powerOnOf f bars p =
-    record { image = imageOf layout.configSpaceSize (imageFields f bars p); mask = imageOf layout.configSpaceSize (maskFields f p) }
+-- both, of `space` bytes; "everything else is zero"
+unfoldable pub powerOnOf : ℕ → Contents → List BarState → Placed → PowerOn
+powerOnOf space f bars p = record { image = imageOf space (imageFields f bars p); mask = imageOf space (maskFields f p) }

@@ -1,8 +1,9 @@
 -- A read of config space (document 01, "Access and reset").
 use Prim.Native.Nat.{ℕ, _%_}
-use mathlib.Core.Bool.{Bool, false, cond}
+use mathlib.Core.Bool.{false, cond}
+use Rattle.refusal.specs.Number.{accepted, badAccess, badTouch}
 use Rattle.word.specs.Number.{readAt, bytesOf}
-use Rattle.address.specs.Layout.{configSpaceSize, barRegisterSize}
+use Rattle.address.specs.Layout.{barRegisterSize}
 use Rattle.address.specs.Check.{accessOf}
 use Rattle.address.specs.declared.access.Access.{Access}
 use Rattle.address.specs.declared.access.Access.the-variants as access
@@ -13,24 +14,25 @@ use Rattle.capability.specs.declared.effect_access.Touch.{Touch}
 use Rattle.capability.specs.declared.effect_access.Touch.the-variants as touch
 use Rattle.capability.specs.declared.snapshot.Snapshot.{Snapshot}
 use Rattle.config.specs.State.{barAt, slotAt, inBar, noBody}
+use Rattle.config.specs.Space.{spaceOf}
 use Rattle.config.specs.declared.state.FunctionState.{FunctionState}
 use Rattle.config.specs.declared.read_step.ReadAnswer.{ReadAnswer}
 use Rattle.config.specs.declared.read_step.ReadAnswer.the-variants.{Value, Effect, BadAccess, BadEffect}
 use Rattle.config.specs.declared.read_step.ReadReply.{ReadReply}
 
--- document 01's number for each answer, 0 where nothing is refused
-abbrev pub readRefusal : ReadAnswer → ℕ
-readRefusal (Value v) = 0
-readRefusal (Effect id region offset) = 0
-readRefusal BadAccess = 18
-readRefusal BadEffect = 19
+-- document 01's number for each answer
+abbrev pub readNumber : ReadAnswer → ℕ
+readNumber (Value v) = accepted
+readNumber (Effect id region offset) = accepted
+readNumber BadAccess = badAccess
+readNumber BadEffect = badTouch
 
 abbrev pub readReply : ReadAnswer → Snapshot → ReadReply
 readReply a b = record { answer = a; body = b }
 
 -- "a read shows the committed address .., or, while probing, the size mask": the bytes asked of what the register shows
 unfoldable pub registerBytes : FunctionState → ℕ → ℕ → ℕ
-registerBytes f o w = readAt (bytesOf 4 (shown (barAt (f .bars) (slotAt o)))) (o % barRegisterSize) w
+registerBytes f o w = readAt (bytesOf barRegisterSize (shown (barAt (f .bars) (slotAt o)))) (o % barRegisterSize) w
 
 -- "Elsewhere, an access that touches an effect follows 19, or is answered ..; nothing changes. Any other read gives the live bytes"
 abbrev pub readTouched : FunctionState → ℕ → ℕ → Touch → ReadReply
@@ -48,4 +50,4 @@ readChecked f access.Refused = readReply BadAccess noBody
 readChecked f (access.Good o w) = readGood f (o .0) w
 
 unfoldable pub readOf : FunctionState → ℕ → ℕ → ReadReply
-readOf f o w = readChecked f (accessOf configSpaceSize o w)
+readOf f o w = readChecked f (accessOf (spaceOf f) o w)

@@ -7,6 +7,7 @@ use lib.ListN.{getD, set, replicate}
 use Rattle.address.specs.Kinds.{slot}
 use Rattle.address.specs.Layout.{barStart, barEnd, barRegisterSize}
 use Rattle.bar.specs.declared.bar_state.BarState.{BarState}
+use Rattle.capability.specs.Size.{bodyMost}
 use Rattle.capability.specs.declared.snapshot.Snapshot.{Snapshot}
 use Rattle.config.specs.declared.state.FunctionState.{FunctionState}
 
@@ -36,4 +37,4 @@ withBar f i b =
 
 -- the copy of no body
 abbrev pub noBody : Snapshot
-noBody = record { length = 0; bytes = replicate 253 0 }
+noBody = record { length = 0; bytes = replicate bodyMost 0 }

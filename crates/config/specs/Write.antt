@@ -1,10 +1,9 @@
 -- A write to config space (document 01, "Access and reset"), but for the acceptance of a candidate, which the bus decides.
-use Prim.Native.Nat.{ℕ, _+_, _%_}
-use mathlib.Core.Bool.{Bool, true, false, cond}
-use mathlib.Core.List.{List}
-use lib.Dec.{ltb, eqb}
+use Prim.Native.Nat.{ℕ, _%_}
+use mathlib.Core.Bool.{true, cond}
+use Rattle.refusal.specs.Number as refusal
 use Rattle.word.specs.Store.{stored}
-use Rattle.address.specs.Layout.{configSpaceSize, barRegisterSize}
+use Rattle.address.specs.Layout.{barRegisterSize}
 use Rattle.address.specs.Kinds.{indexOf}
 use Rattle.address.specs.Check.{accessOf}
 use Rattle.address.specs.declared.slot.Slot.{Slot}
@@ -20,22 +19,22 @@ use Rattle.capability.specs.declared.effect_access.Touch.{Touch}
 use Rattle.capability.specs.declared.effect_access.Touch.the-variants as touch
 use Rattle.capability.specs.declared.snapshot.Snapshot.{Snapshot}
 use Rattle.config.specs.State.{barAt, slotAt, inBar, noBody, withLive, withBar}
+use Rattle.config.specs.Space.{spaceOf}
 use Rattle.config.specs.Command.{revisionAfter, exhausted}
 use Rattle.config.specs.declared.state.FunctionState.{FunctionState}
 use Rattle.config.specs.declared.write_step.WriteAnswer.{WriteAnswer}
 use Rattle.config.specs.declared.write_step.WriteAnswer.the-variants.{Stored, Probing, Candidate, Effect, BadAccess, BadEffect, Exhausted}
-use Rattle.config.specs.declared.write_step.WriteReply.{WriteReply}
 use Rattle.config.specs.declared.write_step.WriteDone.{WriteDone}
 
--- document 01's number for each answer, 0 where nothing is refused
-abbrev pub writeRefusal : WriteAnswer → ℕ
-writeRefusal Stored = 0
-writeRefusal (Probing slot) = 0
-writeRefusal (Candidate slot address) = 0
-writeRefusal (Effect id region offset) = 0
-writeRefusal BadAccess = 18
-writeRefusal BadEffect = 19
-writeRefusal Exhausted = 20
+-- document 01's number for each answer
+abbrev pub writeNumber : WriteAnswer → ℕ
+writeNumber Stored = refusal.accepted
+writeNumber (Probing slot) = refusal.accepted
+writeNumber (Candidate slot address) = refusal.accepted
+writeNumber (Effect id region offset) = refusal.accepted
+writeNumber BadAccess = refusal.badAccess
+writeNumber BadEffect = refusal.badTouch
+writeNumber Exhausted = refusal.exhausted
 
 abbrev pub writeDone : WriteAnswer → Snapshot → FunctionState → WriteDone
 writeDone a b f = record { reply = record { answer = a; body = b }; state = f }
@@ -72,7 +71,7 @@ writeChecked f v access.Refused = writeDone BadAccess noBody f
 writeChecked f v (access.Good o w) = writeGood f (o .0) w v
 
 unfoldable pub writeOf : FunctionState → ℕ → ℕ → ℕ → WriteDone
-writeOf f o w v = writeChecked f v (accessOf configSpaceSize o w)
+writeOf f o w v = writeChecked f v (accessOf (spaceOf f) o w)
 
 -- the second step: "probing ends", and the candidate is taken or "the address stays"
 abbrev pub relocatedAt : FunctionState → Slot → Relocation → FunctionState

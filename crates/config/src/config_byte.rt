@@ -1,10 +1,10 @@
 // Where config bytes may stand: refusal 9.
 ghost use mathlib.Core.Path.{_≡_};
-ghost use Rattle.config.specs.ConfigByte.{byteCount, byteOk, byteCheckOf};
-use crate::function::CONFIG_BYTE_LIMIT;
+ghost use Rattle.config.specs.ConfigByte.{byteCount, byteOk, byteCheckOf, byteCheckNumber};
 use crate::function::Contents;
 use address::ConfigOffset;
 use address::config_layout;
+use address::limits::CONFIG_BYTE_LIMIT;
 use capability::Holder;
 use capability::Placed;
 use capability::capability_at;
@@ -15,21 +15,28 @@ pub enum ByteCheck {
     Bad(usize),
 }
 
+impl ByteCheck {
+    // Document 01's number for the answer.
+    pub fn number(self) -> u8
+        ensures { λ r. ⌜ r ≡ byteCheckNumber self ⌝ }
+    {
+        match self {
+            ByteCheck::Good => refusal::ACCEPTED,
+            ByteCheck::Bad(_) => refusal::BAD_CONFIG_BYTE,
+        }
+    }
+}
+
 // How many config bytes there are.
 pub fn byte_count(contents: Contents) -> usize
     ensures { λ r. ⌜ r ≡ byteCount contents ⌝ }
 {
-    let n = contents.byte_count;
-    if n < CONFIG_BYTE_LIMIT {
-        n
-    } else {
-        CONFIG_BYTE_LIMIT
-    }
+    word::at_most(contents.byte_count, CONFIG_BYTE_LIMIT)
 }
 
-// Whether a config byte may stand at an offset.
-fn byte_ok(placed: Placed, offset: ConfigOffset) -> bool
-    ensures { λ r. ⌜ r ≡ byteOk placed (offset .0) ⌝ }
+// Whether a config byte may stand at an offset in a config space of `space` bytes.
+fn byte_ok(space: u16, placed: Placed, offset: ConfigOffset) -> bool
+    ensures { λ r. ⌜ r ≡ byteOk space placed (offset .0) ⌝ }
 {
     let at = offset.value() as usize;
     if at == config_layout::CONFIG_CACHE_LINE_SIZE_OFFSET {
@@ -44,7 +51,7 @@ fn byte_ok(placed: Placed, offset: ConfigOffset) -> bool
     if at < config_layout::CONFIG_STANDARD_HEADER_END {
         return false;
     }
-    if (config_layout::CONFIG_SPACE_SIZE as usize) <= at {
+    if (space as usize) <= at {
         return false;
     }
     match capability_at(placed, offset) {
@@ -54,14 +61,14 @@ fn byte_ok(placed: Placed, offset: ConfigOffset) -> bool
 }
 
 // Refusal 9: the first config byte that may not stand where it is.
-pub fn check_config_bytes(contents: Contents, placed: Placed) -> ByteCheck
-    ensures { λ r. ⌜ r ≡ byteCheckOf contents placed ⌝ }
+pub fn check_config_bytes(space: u16, contents: Contents, placed: Placed) -> ByteCheck
+    ensures { λ r. ⌜ r ≡ byteCheckOf space contents placed ⌝ }
 {
     let n = byte_count(contents);
     let mut i = 0;
     while i < n {
         let byte = contents.bytes[i];
-        let good = byte_ok(placed, byte.offset);
+        let good = byte_ok(space, placed, byte.offset);
         if !good {
             return ByteCheck::Bad(i);
         }

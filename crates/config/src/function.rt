@@ -1,12 +1,14 @@
 // What is declared of a function beside its BARs and capabilities.
 use address::ConfigOffset;
+use address::config_layout;
+use address::limits::BAR_SLOTS;
+use address::limits::CONFIG_BYTE_LIMIT;
 use bar::MemoryBar;
 use capability::Capabilities;
 
-pub const CONFIG_BYTE_LIMIT: usize = 32;
-
-// From 0x40 on, where capabilities lie.
-pub const BODY_SPACE: usize = 192;
+// The bytes from 0x40 on, where capabilities lie.
+pub const BODY_SPACE: usize = config_layout::CONFIG_SPACE_BYTES
+    - config_layout::CONFIG_STANDARD_HEADER_END;
 
 #[repr(C)]
 pub struct Identity {
@@ -46,6 +48,6 @@ pub struct Contents {
 pub struct Function {
     pub device: u8,
     pub contents: Contents,
-    pub bars: [MemoryBar; 6],
+    pub bars: [MemoryBar; BAR_SLOTS],
     pub capabilities: Capabilities,
 }

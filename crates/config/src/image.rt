@@ -1,26 +1,7 @@
 // One field put into a lent image: a byte, a word, or a part of bytes that lie at their places.
 ghost use mathlib.Core.Path.{_≡_};
 ghost use mathlib.Core.List.{[], _∷_};
-ghost use Prim.Native.Nat.{_-_};
-ghost use lib.ListN.{getD};
 ghost use Rattle.config.specs.Field.{laid, at, part};
-
-// What a is past b.
-fn past(a: usize, b: usize) -> usize
-    ensures { λ r. ⌜ r ≡ a - b ⌝ }
-{
-    if a < b { 0 } else { a - b }
-}
-
-// The byte at an index; 0 past the end.
-fn byte_at(bytes: &[u8], i: usize) -> u8
-    ensures { λ r. ⌜ r ≡ getD (now (bytes .entry)) i 0 ⌝ }
-{
-    if bytes.len() <= i {
-        return 0;
-    }
-    bytes[i]
-}
 
 pub fn put_byte(image: &mut [u8], offset: usize, value: u8)
     ensures { λ _. ⌜ now (image .exit) ≡ laid (now (image .entry)) (at offset 1 value ∷ []) ⌝ }
@@ -38,14 +19,14 @@ pub fn put_word(image: &mut [u8], offset: usize, value: u16)
 pub fn copy(image: &mut [u8], offset: usize, length: usize, base: usize, bytes: &[u8])
     ensures { λ _. ⌜ now (image .exit) ≡ laid (now (image .entry)) (part offset length base (now (bytes .entry)) ∷ []) ⌝ }
 {
-    let room = past(image.len(), offset);
+    let room = word::past(image.len(), offset);
     let mut i = 0;
     while i < length {
         if room <= i {
             return;
         }
         let at = offset + i;
-        image[at] = byte_at(bytes, past(at, base));
+        image[at] = word::byte_at(bytes, word::past(at, base));
         i += 1;
     }
 }

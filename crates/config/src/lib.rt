@@ -1,4 +1,5 @@
 // A function's config space: power-on image, state, reads, writes, reset.
+mod command;
 mod config_byte;
 mod function;
 mod image;
@@ -13,7 +14,6 @@ mod write_step;
 pub use config_byte::ByteCheck;
 pub use config_byte::check_config_bytes;
 pub use function::BODY_SPACE;
-pub use function::CONFIG_BYTE_LIMIT;
 pub use function::ConfigByte;
 pub use function::Contents;
 pub use function::Function;
@@ -26,7 +26,6 @@ pub use read_step::read;
 pub use reset_step::ResetAnswer;
 pub use reset_step::ResetDone;
 pub use reset_step::reset;
-pub use state::BAR_SLOTS;
 pub use state::FunctionState;
 pub use store_leaf::LARGEST_REVISION;
 pub use store_leaf::store_live;

@@ -2,10 +2,13 @@
 ghost use mathlib.Core.Path.{_≡_};
 ghost use mathlib.Core.List.{[], _∷_};
 ghost use Prim.Native.Nat.{_<_};
-ghost use Rattle.address.specs.Layout.{barCount};
+ghost use Rattle.address.specs.Layout.{configSpaceSize, barCount};
+ghost use Rattle.capability.specs.Owner.{capabilityCount};
 ghost use Rattle.config.specs.ConfigByte.{byteCount};
 ghost use Rattle.config.specs.Field.{laid};
-ghost use Rattle.config.specs.PowerOn.{identityFields, intxFields, commandFields, byteValues, byteMasks, barField, barFields, capabilityCount, startAt, listFields, headerFields, bodyField, capabilityFields, capabilityMasks, powerOnOf};
+ghost use Rattle.config.specs.PowerOn.{identityFields, intxFields, commandFields, byteValues, byteMasks, barField, barFields, listFields, headerFields, bodyField, capabilityFields, capabilityMasks, powerOnOf};
+use crate::command::COMMAND_HIGH;
+use crate::command::COMMAND_LOW;
 use crate::config_byte::byte_count;
 use crate::function::Contents;
 use crate::function::Identity;
@@ -14,15 +17,18 @@ use crate::image::copy;
 use crate::image::put_byte;
 use crate::image::put_word;
 use address::config_layout;
+use address::config_layout::CONFIG_SPACE_BYTES;
+use address::limits::BAR_SLOTS;
 use bar::BarState;
 use capability::CAPABILITY_HEADER_SIZE;
-use capability::CAPABILITY_LIMIT;
 use capability::Placed;
+use capability::capability_count;
+use capability::capability_start;
 
 #[repr(C)]
 pub struct PowerOn {
-    pub image: [u8; 256],
-    pub mask: [u8; 256],
+    pub image: [u8; CONFIG_SPACE_BYTES],
+    pub mask: [u8; CONFIG_SPACE_BYTES],
 }
 
 fn put_identity(image: &mut [u8], identity: Identity)
@@ -86,16 +92,8 @@ fn put_intx(image: &mut [u8], intx: Intx)
 fn put_command(mask: &mut [u8])
     ensures { λ _. ⌜ now (mask .exit) ≡ laid (now (mask .entry)) commandFields ⌝ }
 {
-    put_byte(
-        mask,
-        config_layout::CONFIG_COMMAND_OFFSET,
-        config_layout::COMMAND_MEMORY_SPACE_ENABLE | config_layout::COMMAND_BUS_MASTER_ENABLE,
-    );
-    put_byte(
-        mask,
-        config_layout::CONFIG_COMMAND_OFFSET + 1,
-        config_layout::COMMAND_INTERRUPT_DISABLE,
-    );
+    put_byte(mask, config_layout::CONFIG_COMMAND_OFFSET, COMMAND_LOW);
+    put_byte(mask, config_layout::CONFIG_COMMAND_OFFSET + 1, COMMAND_HIGH);
 }
 
 fn put_config_bytes(image: &mut [u8], mask: &mut [u8], contents: Contents)
@@ -125,12 +123,12 @@ fn put_bar(image: &mut [u8], bar: BarState, slot: u8)
     word::put(
         image,
         register,
-        4,
+        config_layout::CONFIG_BAR_REGISTER_SIZE,
         bar::committed_dword(bar.plan.address) as u64,
     );
 }
 
-fn put_bars(image: &mut [u8], bars: [BarState; 6])
+fn put_bars(image: &mut [u8], bars: [BarState; BAR_SLOTS])
     ensures { λ _. ⌜ now (image .exit) ≡ laid (now (image .entry)) (barFields bars barCount) ⌝ }
 {
     let mut slot = 0;
@@ -139,32 +137,6 @@ fn put_bars(image: &mut [u8], bars: [BarState; 6])
         put_bar(image, bar, slot);
         slot += 1;
     }
-}
-
-// How many capabilities there are.
-fn capability_count(placed: Placed) -> usize
-    ensures { λ r. ⌜ r ≡ capabilityCount placed ⌝ }
-{
-    let n = placed.count;
-    if n < CAPABILITY_LIMIT {
-        n
-    } else {
-        CAPABILITY_LIMIT
-    }
-}
-
-// Where the capability at an index starts, 0 past the last.
-fn start_at(placed: Placed, i: usize) -> u16
-    ensures { λ r. ⌜ r ≡ startAt placed i ⌝ }
-{
-    if i < placed.count {
-        if i < CAPABILITY_LIMIT {
-            let capability = placed.capabilities[i];
-            let offset = capability.offset;
-            return offset.value();
-        }
-    }
-    0
 }
 
 // The status bit and the pointer of the list.
@@ -183,7 +155,7 @@ fn put_list(image: &mut [u8], placed: Placed)
         image,
         config_layout::CONFIG_CAPABILITY_POINTER_OFFSET,
         1,
-        start_at(placed, 0) as u64,
+        capability_start(placed, 0) as u64,
     );
 }
 
@@ -193,9 +165,9 @@ fn put_header(image: &mut [u8], placed: Placed, i: usize)
     ensures { λ _. ⌜ now (image .exit) ≡ laid (now (image .entry)) (headerFields placed i) ⌝ }
 {
     let capability = placed.capabilities[i];
-    let start = start_at(placed, i) as usize;
+    let start = capability_start(placed, i) as usize;
     put_byte(image, start, capability.id);
-    word::put(image, start + 1, 1, start_at(placed, i + 1) as u64);
+    word::put(image, start + 1, 1, capability_start(placed, i + 1) as u64);
 }
 
 // The body of a capability, or its masks.
@@ -205,7 +177,7 @@ fn put_body(image: &mut [u8], bytes: &[u8], placed: Placed, i: usize)
 {
     let capability = placed.capabilities[i];
     let length = capability.length as usize;
-    let start = start_at(placed, i) as usize;
+    let start = capability_start(placed, i) as usize;
     copy(
         image,
         start + CAPABILITY_HEADER_SIZE,
@@ -230,15 +202,15 @@ fn put_capabilities(image: &mut [u8], mask: &mut [u8], bodies: &[u8], masks: &[u
 
 impl PowerOn {
     // The image and the masks of a function: identity, INTx, command, config bytes, BARs, capabilities.
-    pub fn build(contents: Contents, bars: [BarState; 6], placed: Placed) -> PowerOn
-        ensures { λ r. ⌜ r ≡ powerOnOf contents bars placed ⌝ }
+    pub fn build(contents: Contents, bars: [BarState; BAR_SLOTS], placed: Placed) -> PowerOn
+        ensures { λ r. ⌜ r ≡ powerOnOf configSpaceSize contents bars placed ⌝ }
     {
         let identity = contents.identity;
         let intx = contents.intx;
         let bodies = contents.bodies;
         let masks = contents.masks;
-        let mut image = [0u8; 256];
-        let mut mask = [0u8; 256];
+        let mut image = [0u8; CONFIG_SPACE_BYTES];
+        let mut mask = [0u8; CONFIG_SPACE_BYTES];
         put_identity(&mut image, identity);
         put_intx(&mut image, intx);
         put_command(&mut mask);

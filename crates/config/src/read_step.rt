@@ -1,15 +1,16 @@
 // A read of config space.
 ghost use mathlib.Core.Path.{_≡_};
-ghost use Rattle.config.specs.Read.{registerBytes, readTouched, readGood, readOf};
+ghost use Rattle.config.specs.Read.{readNumber, registerBytes, readTouched, readGood, readOf};
 use crate::state::FunctionState;
 use crate::state::bar_at;
 use crate::state::in_bar;
 use crate::state::no_body;
 use crate::state::slot_at;
+use crate::state::space_of;
 use address::Access;
 use address::ConfigOffset;
 use address::check;
-use address::config_layout;
+use address::config_layout::CONFIG_BAR_REGISTER_SIZE;
 use capability::PlacedEffect;
 use capability::Snapshot;
 use capability::Touch;
@@ -28,6 +29,24 @@ pub enum ReadAnswer {
     BadEffect,
 }
 
+impl ReadAnswer {
+    // Document 01's number for the answer.
+    pub fn number(self) -> u8
+        ensures { λ r. ⌜ r ≡ readNumber self ⌝ }
+    {
+        match self {
+            ReadAnswer::Value(_) => refusal::ACCEPTED,
+            ReadAnswer::Effect {
+                capability_id: _,
+                region: _,
+                offset: _,
+            } => refusal::ACCEPTED,
+            ReadAnswer::BadAccess => refusal::BAD_ACCESS,
+            ReadAnswer::BadEffect => refusal::BAD_TOUCH,
+        }
+    }
+}
+
 // The answer, and for an effect the copy of the live body; else that of none.
 pub struct ReadReply {
     pub answer: ReadAnswer,
@@ -40,9 +59,9 @@ fn register_bytes(state: FunctionState, offset: usize, width: usize) -> u64
 {
     let bars = state.bars;
     let bar = bar_at(bars, slot_at(offset));
-    let lane = offset % config_layout::CONFIG_BAR_REGISTER_SIZE;
-    let mut bytes = [0u8; 4];
-    word::put(&mut bytes, 0, 4, bar.raw_dword());
+    let lane = offset % CONFIG_BAR_REGISTER_SIZE;
+    let mut bytes = [0u8; CONFIG_BAR_REGISTER_SIZE];
+    word::put(&mut bytes, 0, CONFIG_BAR_REGISTER_SIZE, bar.raw_dword());
     word::read(&bytes, lane, width)
 }
 
@@ -101,7 +120,7 @@ fn read_good(state: FunctionState, offset: ConfigOffset, width: usize) -> ReadRe
 pub fn read(state: FunctionState, offset: usize, width: usize) -> ReadReply
     ensures { λ r. ⌜ r ≡ readOf state offset width ⌝ }
 {
-    match check(config_layout::CONFIG_SPACE_SIZE, offset, width) {
+    match check(space_of(state), offset, width) {
         Access::Good { offset, width } => read_good(state, offset, width),
         Access::Refused => ReadReply {
             answer: ReadAnswer::BadAccess,

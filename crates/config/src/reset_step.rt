@@ -2,16 +2,28 @@
 ghost use mathlib.Core.Path.{_≡_};
 ghost use mathlib.Core.List.{map};
 ghost use Rattle.bar.specs.State.{resetOf};
-ghost use Rattle.config.specs.Reset.{resetDone};
-use crate::state::BAR_SLOTS;
+ghost use Rattle.config.specs.Reset.{resetDone, resetNumber};
 use crate::state::FunctionState;
 use crate::store_leaf::LARGEST_REVISION;
+use address::limits::BAR_SLOTS;
 use bar::BarState;
 
 // Restored; or 20, with the revision at its largest and everything else restored.
 pub enum ResetAnswer {
     Restored,
     Exhausted,
+}
+
+impl ResetAnswer {
+    // Document 01's number for the answer.
+    pub fn number(self) -> u8
+        ensures { λ r. ⌜ r ≡ resetNumber self ⌝ }
+    {
+        match self {
+            ResetAnswer::Restored => refusal::ACCEPTED,
+            ResetAnswer::Exhausted => refusal::REVISION_EXHAUSTED,
+        }
+    }
 }
 
 pub struct ResetDone {

@@ -1,25 +1,33 @@
 // A function's state.
 ghost use mathlib.Core.Path.{_≡_};
-ghost use Rattle.config.specs.State.{inBar, barAt, slotAt, withBar, noBody};
+ghost use Rattle.config.specs.State.{noState, inBar, barAt, slotAt, withBar, noBody};
+ghost use Rattle.config.specs.Space.{spaceOf};
 use address::Slot;
 use address::config_layout;
+use address::config_layout::CONFIG_SPACE_BYTES;
+use address::limits::BAR_SLOTS;
 use bar::BarState;
 use bar::Plan;
+use capability::CAPABILITY_BODY_MAX_SIZE;
 use capability::Placed;
 use capability::Snapshot;
-
-// The slots of a type 0 header.
-pub const BAR_SLOTS: usize = 6;
 
 // Two images and the write masks, six BARs by value (a plan of size 0 is no BAR), the placed capabilities and effects, the revision.
 #[repr(C)]
 pub struct FunctionState {
-    pub live: [u8; 256],
-    pub power_on: [u8; 256],
-    pub mask: [u8; 256],
+    pub live: [u8; CONFIG_SPACE_BYTES],
+    pub power_on: [u8; CONFIG_SPACE_BYTES],
+    pub mask: [u8; CONFIG_SPACE_BYTES],
     pub bars: [BarState; BAR_SLOTS],
     pub placed: Placed,
     pub revision: u64,
+}
+
+// How many bytes of config space a function has.
+pub fn space_of(state: FunctionState) -> u16
+    ensures { λ r. ⌜ r ≡ spaceOf state ⌝ }
+{
+    config_layout::CONFIG_SPACE_SIZE
 }
 
 // The slot whose register has the byte at an offset.
@@ -32,6 +40,17 @@ pub fn slot_at(offset: usize) -> usize
     (offset - config_layout::CONFIG_BAR_START) / config_layout::CONFIG_BAR_REGISTER_SIZE
 }
 
+// What stands in a slot with no BAR.
+fn no_state() -> BarState
+    ensures { λ r. ⌜ r ≡ noState ⌝ }
+{
+    BarState::new(Plan {
+        slot: Slot::zero(),
+        size: 0,
+        address: 0,
+    })
+}
+
 // The BAR at an index; that of an empty slot past the last.
 pub fn bar_at(bars: [BarState; BAR_SLOTS], i: usize) -> BarState
     ensures { λ r. ⌜ r ≡ barAt bars i ⌝ }
@@ -39,11 +58,7 @@ pub fn bar_at(bars: [BarState; BAR_SLOTS], i: usize) -> BarState
     if i < BAR_SLOTS {
         return bars[i];
     }
-    BarState::new(Plan {
-        slot: Slot::zero(),
-        size: 0,
-        address: 0,
-    })
+    no_state()
 }
 
 // Whether an offset lies in the register of a slot that has a BAR.
@@ -66,7 +81,7 @@ pub fn no_body() -> Snapshot
 {
     Snapshot {
         length: 0,
-        bytes: [0u8; 253],
+        bytes: [0u8; CAPABILITY_BODY_MAX_SIZE],
     }
 }
 

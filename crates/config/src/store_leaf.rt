@@ -1,44 +1,18 @@
 // The rule of the store on lent arrays, for a state that is carried by value and for one that is changed in place.
 ghost use mathlib.Core.Path.{_≡_};
-ghost use Prim.Native.Nat.{_+_, _*_};
-ghost use lib.Bits.{bitAnd};
 ghost use mathlib.Core.Bool.{not, cond};
 ghost use Rattle.word.specs.Store.{stored};
-ghost use Rattle.config.specs.Command.{watched, exhausted, revisionAfter};
-use address::config_layout;
+ghost use Rattle.config.specs.Command.{exhausted, revisionAfter};
+use crate::command::command_after;
+use crate::command::command_of;
+use address::config_layout::CONFIG_SPACE_BYTES;
 
 pub const LARGEST_REVISION: u64 = 0xffff_ffff_ffff_ffff;
 
-// Command bits 1, 2 and 10 of the bytes at 0x04 and 0x05.
-fn command_bits(low: u8, high: u8) -> u16
-    ensures { λ r. ⌜ r ≡ bitAnd low 6 + 256 * bitAnd high 4 ⌝ }
-{
-    let enables = low
-        & (config_layout::COMMAND_MEMORY_SPACE_ENABLE | config_layout::COMMAND_BUS_MASTER_ENABLE);
-    let disable = high & config_layout::COMMAND_INTERRUPT_DISABLE;
-    (enables as u16) + 256 * (disable as u16)
-}
-
-// Those bits of an image.
-fn command_of(live: &[u8; 256]) -> u16
-    ensures { λ r. ⌜ r ≡ watched (now (live .entry)) ⌝ }
-{
-    command_bits(live[4], live[5])
-}
-
-// Those bits after a store.
-fn command_after(live: &[u8; 256], mask: &[u8; 256], offset: usize, width: usize, value: u64) -> u16
-    ensures { λ r. ⌜ r ≡ watched (stored (now (mask .entry)) (now (live .entry)) offset width value) ⌝ }
-{
-    let low = word::stored_byte(live, mask, offset, width, value, 4);
-    let high = word::stored_byte(live, mask, offset, width, value, 5);
-    command_bits(low, high)
-}
-
 // Stores under the mask and follows the revision; false, with nothing changed, where that is at its largest and a command bit would change.
 pub fn store_live(
-    live: &mut [u8; 256],
-    mask: &[u8; 256],
+    live: &mut [u8; CONFIG_SPACE_BYTES],
+    mask: &[u8; CONFIG_SPACE_BYTES],
     revision: &mut u64,
     offset: usize,
     width: usize,

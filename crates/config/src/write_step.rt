@@ -1,12 +1,13 @@
 // A write to config space, in two steps where it asks for a relocation.
 ghost use mathlib.Core.Path.{_≡_};
 ghost use Rattle.config.specs.State.{noBody};
-ghost use Rattle.config.specs.Write.{writeDone, storeOf, barStep, writeTouched, writeGood, writeOf, relocatedAt};
+ghost use Rattle.config.specs.Write.{writeNumber, writeDone, storeOf, barStep, writeTouched, writeGood, writeOf, relocatedAt};
 use crate::state::FunctionState;
 use crate::state::bar_at;
 use crate::state::in_bar;
 use crate::state::no_body;
 use crate::state::slot_at;
+use crate::state::space_of;
 use crate::state::with_bar;
 use crate::store_leaf::store_live;
 use address::Access;
@@ -38,6 +39,30 @@ pub enum WriteAnswer {
     BadAccess,
     BadEffect,
     Exhausted,
+}
+
+impl WriteAnswer {
+    // Document 01's number for the answer.
+    pub fn number(self) -> u8
+        ensures { λ r. ⌜ r ≡ writeNumber self ⌝ }
+    {
+        match self {
+            WriteAnswer::Stored => refusal::ACCEPTED,
+            WriteAnswer::Probing(_) => refusal::ACCEPTED,
+            WriteAnswer::Candidate {
+                slot: _,
+                address: _,
+            } => refusal::ACCEPTED,
+            WriteAnswer::Effect {
+                capability_id: _,
+                region: _,
+                offset: _,
+            } => refusal::ACCEPTED,
+            WriteAnswer::BadAccess => refusal::BAD_ACCESS,
+            WriteAnswer::BadEffect => refusal::BAD_TOUCH,
+            WriteAnswer::Exhausted => refusal::REVISION_EXHAUSTED,
+        }
+    }
 }
 
 // The answer, and for an effect the copy of the live body; else that of none.
@@ -149,7 +174,7 @@ fn write_good(state: FunctionState, offset: ConfigOffset, width: usize, value: u
 pub fn write(state: FunctionState, offset: usize, width: usize, value: u64) -> WriteDone
     ensures { λ r. ⌜ r ≡ writeOf state offset width value ⌝ }
 {
-    match check(config_layout::CONFIG_SPACE_SIZE, offset, width) {
+    match check(space_of(state), offset, width) {
         Access::Good { offset, width } => write_good(state, offset, width, value),
         Access::Refused => plain(WriteAnswer::BadAccess, state),
     }

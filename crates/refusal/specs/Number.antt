@@ -1,5 +1,6 @@
 -- Document 01's refusal numbers, under a name each, with the words of its table ("Refusal numbers"). No other definition spells one of them.
 use Prim.Native.Nat.{ℕ}
+use mathlib.Core.List.{List, [], _∷_}
 
 -- nothing is refused
 abbrev pub accepted : ℕ
@@ -84,3 +85,7 @@ badTouch = 19
 -- revision counter at its largest
 abbrev pub exhausted : ℕ
 exhausted = 20
+
+-- all of them, in order
+abbrev pub numbers : List ℕ
+numbers = accepted ∷ fieldCut ∷ badForm ∷ outOfOrder ∷ aboveLimit ∷ badDeviceOrSlot ∷ absentVendor ∷ badSize ∷ badAperture ∷ badConfigByte ∷ longBody ∷ badEffect ∷ repeatedEffect ∷ pastSpace ∷ notMultiple ∷ outsideAperture ∷ overlapsPlaced ∷ noPlace ∷ badAccess ∷ badTouch ∷ exhausted ∷ []

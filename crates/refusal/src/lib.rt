@@ -1,4 +1,6 @@
 // Document 01's refusal numbers. No other code spells one of them.
+ghost use mathlib.Core.Path.{_≡_};
+ghost use Rattle.refusal.specs.Number.{numbers};
 
 // Nothing is refused.
 pub const ACCEPTED: u8 = 0;
@@ -62,3 +64,32 @@ pub const BAD_TOUCH: u8 = 19;
 
 // Revision counter at its largest.
 pub const REVISION_EXHAUSTED: u8 = 20;
+
+// All of them, in order; its promise holds these constants to the definitions.
+pub fn all() -> [u8; 21]
+    ensures { λ r. ⌜ r ≡ numbers ⌝ }
+{
+    [
+        ACCEPTED,
+        FIELD_CUT,
+        BAD_FORM,
+        OUT_OF_ORDER,
+        ABOVE_LIMIT,
+        BAD_DEVICE_OR_SLOT,
+        ABSENT_VENDOR,
+        BAD_SIZE,
+        BAD_APERTURE,
+        BAD_CONFIG_BYTE,
+        LONG_BODY,
+        BAD_EFFECT,
+        REPEATED_EFFECT,
+        PAST_SPACE,
+        NOT_MULTIPLE,
+        OUTSIDE_APERTURE,
+        OVERLAPS_PLACED,
+        NO_PLACE,
+        BAD_ACCESS,
+        BAD_TOUCH,
+        REVISION_EXHAUSTED,
+    ]
+}

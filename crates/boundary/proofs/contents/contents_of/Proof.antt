@@ -1,4 +1,4 @@
--- `contents_of` copies each part. Assumes nothing.
+-- `contents_of` copies each part.
 use Rattle.boundary.specs.Contents.{contentsOf}
 use borrow.Author.Needs.{needs}
 use Rattle.boundary.proofs.contents.contents_of.Statement.{statement}

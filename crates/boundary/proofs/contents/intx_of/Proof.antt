@@ -1,4 +1,4 @@
--- `intx_of` goes by the flag. Assumes nothing.
+-- `intx_of` goes by the flag.
 use borrow.Author.Needs.{needs}
 use Rattle.boundary.proofs.contents.intx_of.Statement.{statement}
 use Rattle.boundary.proofs.contents.intx_of.Tie as tie

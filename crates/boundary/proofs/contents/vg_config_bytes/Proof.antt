@@ -1,4 +1,4 @@
--- `vg_config_bytes` tells the index that the check answers. Assumes nothing.
+-- `vg_config_bytes` tells the index that the check answers.
 use borrow.Author.Needs.{needs}
 use Rattle.boundary.proofs.contents.vg_config_bytes.Statement.{statement}
 use Rattle.boundary.proofs.contents.vg_config_bytes.Tie as tie

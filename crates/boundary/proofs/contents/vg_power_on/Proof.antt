@@ -1,4 +1,4 @@
--- `vg_power_on` builds the image of the contents. Assumes nothing.
+-- `vg_power_on` builds the image of the contents.
 use mathlib.Core.Path.{_∙_}
 use borrow.Author.Needs.{needs}
 use Rattle.boundary.proofs.contents.vg_power_on.Statement.{statement}

@@ -1,4 +1,4 @@
--- `outside` tells its number and blanks. Assumes nothing.
+-- `outside` tells its number and blanks.
 use borrow.Author.Needs.{needs}
 use Rattle.boundary.proofs.effects.outside.Statement.{statement}
 use Rattle.boundary.proofs.effects.outside.Tie as tie

@@ -1,4 +1,4 @@
--- `touch_numbers` goes by the three ways of touching. Assumes nothing.
+-- `touch_numbers` goes by the three ways of touching.
 use borrow.Author.Needs.{needs}
 use Rattle.boundary.proofs.effects.touch_numbers.Statement.{statement}
 use Rattle.boundary.proofs.effects.touch_numbers.Tie as tie

@@ -1,4 +1,4 @@
--- `vg_mode` makes the offset, then asks for the mode. Assumes nothing.
+-- `vg_mode` makes the offset, then asks for the mode.
 use borrow.Author.Needs.{needs}
 use Rattle.boundary.proofs.effects.vg_mode.Statement.{statement}
 use Rattle.boundary.proofs.effects.vg_mode.Tie as tie

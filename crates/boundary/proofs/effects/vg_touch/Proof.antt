@@ -1,4 +1,4 @@
--- `vg_touch` checks first. Assumes nothing.
+-- `vg_touch` checks first.
 use borrow.Author.Needs.{needs}
 use Rattle.boundary.proofs.effects.vg_touch.Statement.{statement}
 use Rattle.boundary.proofs.effects.vg_touch.Tie as tie

@@ -1,4 +1,4 @@
--- `plain_read` blanks what an effect would tell. Assumes nothing.
+-- `plain_read` blanks what an effect would tell.
 use borrow.Author.Needs.{needs}
 use Rattle.boundary.proofs.function.plain_read.Statement.{statement}
 use Rattle.boundary.proofs.function.plain_read.Tie as tie

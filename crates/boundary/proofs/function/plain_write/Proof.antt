@@ -1,4 +1,4 @@
--- `plain_write` blanks what an effect would tell. Assumes nothing.
+-- `plain_write` blanks what an effect would tell.
 use borrow.Author.Needs.{needs}
 use Rattle.boundary.proofs.function.plain_write.Statement.{statement}
 use Rattle.boundary.proofs.function.plain_write.Tie as tie

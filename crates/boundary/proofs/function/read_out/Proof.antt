@@ -1,4 +1,4 @@
--- `read_out` goes by the four answers. Assumes nothing.
+-- `read_out` goes by the four answers.
 use borrow.Author.Needs.{needs}
 use Rattle.boundary.proofs.function.read_out.Statement.{statement}
 use Rattle.boundary.proofs.function.read_out.Tie as tie

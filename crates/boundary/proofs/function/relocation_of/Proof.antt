@@ -1,4 +1,4 @@
--- `relocation_of` goes by the flag. Assumes nothing.
+-- `relocation_of` goes by the flag.
 use borrow.Author.Needs.{needs}
 use Rattle.boundary.proofs.function.relocation_of.Statement.{statement}
 use Rattle.boundary.proofs.function.relocation_of.Tie as tie

@@ -1,4 +1,4 @@
--- `vg_finish` makes the slot, then finishes the relocation. Assumes nothing.
+-- `vg_finish` makes the slot, then finishes the relocation.
 use mathlib.Core.Path.{_∙_}
 use borrow.Author.Needs.{needs}
 use Rattle.boundary.proofs.function.vg_finish.Statement.{statement}

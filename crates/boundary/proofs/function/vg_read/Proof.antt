@@ -1,4 +1,4 @@
--- `vg_read` turns the reply of `read` into numbers. Assumes nothing.
+-- `vg_read` turns the reply of `read` into numbers.
 use mathlib.Core.Path.{_∙_}
 use borrow.Author.Needs.{needs}
 use Rattle.boundary.proofs.function.vg_read.Statement.{statement}

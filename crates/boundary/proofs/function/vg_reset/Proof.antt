@@ -1,4 +1,4 @@
--- `vg_reset` turns the answer of `reset` into numbers. Assumes nothing.
+-- `vg_reset` turns the answer of `reset` into numbers.
 use borrow.Author.Needs.{needs}
 use Rattle.boundary.proofs.function.vg_reset.Statement.{statement}
 use Rattle.boundary.proofs.function.vg_reset.Tie as tie

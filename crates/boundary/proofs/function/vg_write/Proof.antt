@@ -1,4 +1,4 @@
--- `vg_write` turns what `write` did into numbers. Assumes nothing.
+-- `vg_write` turns what `write` did into numbers.
 use mathlib.Core.Path.{_∙_}
 use borrow.Author.Needs.{needs}
 use Rattle.boundary.proofs.function.vg_write.Statement.{statement}

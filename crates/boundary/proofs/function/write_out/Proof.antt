@@ -1,4 +1,4 @@
--- `write_out` goes by the seven answers. Assumes nothing.
+-- `write_out` goes by the seven answers.
 use borrow.Author.Needs.{needs}
 use Rattle.boundary.proofs.function.write_out.Statement.{statement}
 use Rattle.boundary.proofs.function.write_out.Tie as tie

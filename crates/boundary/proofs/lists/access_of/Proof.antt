@@ -1,4 +1,4 @@
--- `access_of`: the access that has the number, or to read. Assumes nothing.
+-- `access_of`: the access that has the number, or to read.
 use mathlib.Core.Path.{sym, ap, _∙_}
 use Rattle.boundary.specs.Lists.{accessOr}
 use borrow.Author.Needs.{needs}

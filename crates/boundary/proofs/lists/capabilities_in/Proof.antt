@@ -1,4 +1,4 @@
--- `capabilities_in` fills the list place by place. Assumes nothing.
+-- `capabilities_in` fills the list place by place.
 use Prim.Native.Nat.{ℕ, _-_, _≤_, min}
 use mathlib.Core.List.{List}
 use mathlib.Core.Path.{_≡_, _∙_}
@@ -6,9 +6,11 @@ use borrow.Author.Needs.{needs}
 use native.Mathlib.Omega.{arith}
 use lib.ListN.{getD}
 use Rattle.capability.specs.Size.{bodyMost}
-use Rattle.capability.specs.Declaration.{capabilityLimit, capability, noCapability}
+use Rattle.capability.specs.Declaration.{capability, noCapability}
+use Rattle.address.specs.Limits.{capabilityRoom}
 use Rattle.capability.specs.declared.declared.Capability.{Capability}
-use Rattle.placement.proofs.Fills.{filled, filled-none, filled-more, filled-all}
+use Rattle.word.specs.Table.{filled}
+use Rattle.word.proofs.Tables.{blank-filled, filled-more, filled-all}
 use Rattle.boundary.specs.Lists.{capabilitiesIn}
 use Rattle.boundary.proofs.lists.capabilities_in.Statement.{statement}
 use Rattle.boundary.proofs.lists.capabilities_in.Tie as tie
@@ -17,16 +19,16 @@ abbrev place : List ℕ → List ℕ → ℕ → Capability
 place ids lengths k = capability (getD ids k 0) (min (getD lengths k 0) bodyMost)
 
 abbrev Inv-loop : tie.InvT-loop
-Inv-loop ids lengths list₀ k₀ list k = (k ≤ capabilityLimit) × (list ≡ filled noCapability (place ids lengths) capabilityLimit k)
+Inv-loop ids lengths list₀ k₀ list k = (k ≤ capabilityRoom) × (list ≡ filled capabilityRoom k (place ids lengths) noCapability)
 
 abbrev μ-loop : tie.MeasureT-loop
-μ-loop ids lengths list₀ k₀ list k = capabilityLimit - k
+μ-loop ids lengths list₀ k₀ list k = capabilityRoom - k
 
 none-requires : tie.Need-none-requires Inv-loop μ-loop
 none-requires c κs = search needs
 
 loop-holds : tie.Need-loop-holds Inv-loop μ-loop
-loop-holds c = (omega arith, rw (c .none .ensures) (filled-none noCapability (place (c .before .args .t1) (c .before .args .t2)) capabilityLimit))
+loop-holds c = (omega arith, rw (c .none .ensures) (blank-filled capabilityRoom (place (c .before .args .t1) (c .before .args .t2)) noCapability))
 
 array-read-capability-of : tie.Need-array-read-capability-of Inv-loop μ-loop
 array-read-capability-of c = omega arith
@@ -53,15 +55,15 @@ loop-again : tie.Need-loop-again Inv-loop μ-loop
 loop-again c =
     let l = c .before .before .loop in
     let a = c .before .before .before .before .args in
-    (omega arith, rw (l .inv .1) (filled-more noCapability (place (a .t1) (a .t2)) capabilityLimit (l .k) (c .capability-of .result) (omega arith) (c .capability-of .ensures)))
+    (omega arith, rw (l .inv .1) (filled-more capabilityRoom (place (a .t1) (a .t2)) noCapability (l .k) (c .capability-of .result) (omega arith) (c .capability-of .ensures)))
 
 returns : tie.Need-returns Inv-loop μ-loop
 unfolding capabilitiesIn
 returns c =
     let l = c .before .loop in
     let a = c .before .before .before .args in
-    let e : l .k ≡ capabilityLimit = omega arith in
-    l .inv .1 ∙ rw e (filled-all noCapability (place (a .t1) (a .t2)) capabilityLimit)
+    let e : l .k ≡ capabilityRoom = omega arith in
+    l .inv .1 ∙ rw e (filled-all capabilityRoom (place (a .t1) (a .t2)) noCapability)
 
 pub capabilities-in-spec : {M : Type 1} → statement M
 capabilities-in-spec =

@@ -1,4 +1,4 @@
--- `capability_of`: a length of at most 253 makes a capability. Assumes nothing.
+-- `capability_of`: a length of at most 253 makes a capability.
 use Prim.Native.Nat.{ℕ, min}
 use mathlib.Core.Path.{_≡_, sym, _∙_}
 use native.Mathlib.Omega.{arith}

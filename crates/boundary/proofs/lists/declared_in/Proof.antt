@@ -1,4 +1,4 @@
--- `declared_in`: both lists, and both counts. Assumes nothing.
+-- `declared_in`: both lists, and both counts.
 use Rattle.boundary.specs.Lists.{declaredIn}
 use borrow.Author.Needs.{needs}
 use Rattle.boundary.proofs.lists.declared_in.Statement.{statement}

@@ -1,4 +1,4 @@
--- `effect_of` keeps the region and reads the access from its number. Assumes nothing.
+-- `effect_of` keeps the region and reads the access from its number.
 use borrow.Author.Needs.{needs}
 use Rattle.boundary.proofs.lists.effect_of.Statement.{statement}
 use Rattle.boundary.proofs.lists.effect_of.Tie as tie

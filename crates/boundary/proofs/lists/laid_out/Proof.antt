@@ -1,4 +1,4 @@
--- `laid_out` goes by the answer. Assumes nothing.
+-- `laid_out` goes by the answer.
 use borrow.Author.Needs.{needs}
 use Rattle.boundary.proofs.lists.laid_out.Statement.{statement}
 use Rattle.boundary.proofs.lists.laid_out.Tie as tie

@@ -1,4 +1,4 @@
--- `vg_effect_ok` adds the effect to what the numbers declare. Assumes nothing.
+-- `vg_effect_ok` adds the effect to what the numbers declare.
 use mathlib.Core.Path.{_∙_}
 use Rattle.boundary.specs.Lists.{effectOk}
 use borrow.Author.Needs.{needs}

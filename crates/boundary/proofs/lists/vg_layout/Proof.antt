@@ -1,4 +1,4 @@
--- `vg_layout` lays out what the numbers declare. Assumes nothing.
+-- `vg_layout` lays out what the numbers declare.
 use mathlib.Core.Path.{_∙_}
 use Rattle.boundary.specs.Lists.{layOut}
 use borrow.Author.Needs.{needs}

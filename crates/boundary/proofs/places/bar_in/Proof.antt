@@ -1,4 +1,4 @@
--- `bar_in`: the BAR that the size rule allows, or none. Assumes nothing.
+-- `bar_in`: the BAR that the size rule allows, or none.
 use Prim.Native.Nat.{_+_, _*_}
 use mathlib.Core.Bool.{false}
 use mathlib.Core.Path.{_≡_, sym, ap, _∙_}

@@ -1,4 +1,4 @@
--- `function_in`: the BARs of all six slots. Assumes nothing.
+-- `function_in`: the BARs of all six slots.
 use borrow.Author.Needs.{needs}
 use Rattle.boundary.proofs.places.function_in.Statement.{statement}
 use Rattle.boundary.proofs.places.function_in.Tie as tie

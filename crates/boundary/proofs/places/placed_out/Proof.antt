@@ -1,4 +1,4 @@
--- `placed_out` goes by the answer. Assumes nothing.
+-- `placed_out` goes by the answer.
 use borrow.Author.Needs.{needs}
 use Rattle.boundary.proofs.places.placed_out.Statement.{statement}
 use Rattle.boundary.proofs.places.placed_out.Tie as tie

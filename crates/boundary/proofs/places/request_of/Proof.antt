@@ -1,4 +1,4 @@
--- `request_of` goes by the test. Assumes nothing.
+-- `request_of` goes by the test.
 use Rattle.boundary.proofs.places.request_of.Statement.{statement}
 use Rattle.boundary.proofs.places.request_of.Tie as tie
 

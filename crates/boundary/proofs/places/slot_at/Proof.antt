@@ -1,4 +1,4 @@
--- `slot_at`: an index below six is a slot. Assumes nothing.
+-- `slot_at`: an index below six is a slot.
 use Prim.Native.Nat.{ℕ}
 use mathlib.Core.Path.{_≡_, sym, _∙_}
 use native.Mathlib.Omega.{arith}

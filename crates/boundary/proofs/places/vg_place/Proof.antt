@@ -1,4 +1,4 @@
--- `vg_place` places the BARs that the numbers declare. Assumes nothing.
+-- `vg_place` places the BARs that the numbers declare.
 use mathlib.Core.Path.{_≡_, _∙_}
 use Rattle.placement.specs.Answer.{placementOf}
 use Rattle.boundary.specs.Places.{declaredBars, placeOf}

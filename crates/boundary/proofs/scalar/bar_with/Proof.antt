@@ -1,4 +1,4 @@
--- `bar_with` plans the BAR where it is. Assumes nothing.
+-- `bar_with` plans the BAR where it is.
 use Rattle.boundary.specs.Scalar.{barWith}
 use borrow.Author.Needs.{needs}
 use Rattle.boundary.proofs.scalar.bar_with.Statement.{statement}

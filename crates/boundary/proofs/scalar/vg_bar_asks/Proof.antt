@@ -1,4 +1,4 @@
--- `vg_bar_asks` goes by what the BAR asks. Assumes nothing.
+-- `vg_bar_asks` goes by what the BAR asks.
 use borrow.Author.Needs.{needs}
 use Rattle.boundary.proofs.scalar.vg_bar_asks.Statement.{statement}
 use Rattle.boundary.proofs.scalar.vg_bar_asks.Tie as tie

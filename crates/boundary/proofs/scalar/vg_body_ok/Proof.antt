@@ -1,4 +1,4 @@
--- `vg_body_ok` goes by the constructor's answer. Assumes nothing.
+-- `vg_body_ok` goes by the constructor's answer.
 use borrow.Author.Needs.{needs}
 use Rattle.boundary.proofs.scalar.vg_body_ok.Statement.{statement}
 use Rattle.boundary.proofs.scalar.vg_body_ok.Tie as tie

@@ -1,4 +1,4 @@
--- `vg_check` goes by the check's answer. Assumes nothing.
+-- `vg_check` goes by the check's answer.
 use borrow.Author.Needs.{needs}
 use Rattle.boundary.proofs.scalar.vg_check.Statement.{statement}
 use Rattle.boundary.proofs.scalar.vg_check.Tie as tie

@@ -1,4 +1,4 @@
--- `vg_shown` reads the register. Assumes nothing.
+-- `vg_shown` reads the register.
 use mathlib.Core.Path.{_∙_}
 use borrow.Author.Needs.{needs}
 use Rattle.boundary.proofs.scalar.vg_shown.Statement.{statement}

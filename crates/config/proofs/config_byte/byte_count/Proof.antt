@@ -1,20 +1,20 @@
--- `byte_count` is the count, at most the length of the list. Assumes nothing.
-use mathlib.Core.Path.{_≡_}
-use native.Mathlib.Omega.{arith}
+-- `byte_count` is the count, at most the length of the list.
+use mathlib.Core.Path.{_≡_, _∙_}
 use borrow.Author.Needs.{needs}
 use lib.ListN.{length}
-use Rattle.capability.proofs.Spans.{long-unmapped}
+use Rattle.address.specs.Limits.{configByteRoom}
+use Rattle.word.proofs.Mapped.{long-unmapped}
 use Rattle.config.proofs.config_byte.byte_count.Statement.{statement}
 use Rattle.config.proofs.config_byte.byte_count.Tie as tie
 
-long : (c : tie.Start) → length (c .args .contents .bytes) ≡ 32
+long : (c : tie.Start) → length (c .args .contents .bytes) ≡ configByteRoom
 long c = search (needs, long-unmapped)
 
-returns : tie.Need-returns
-returns c = omega (arith, long (c .before))
+at-most-requires : tie.Need-at-most-requires
+at-most-requires c κs = search needs
 
-returns-2 : tie.Need-returns-2
-returns-2 c = omega (arith, long (c .before))
+returns : tie.Need-returns
+returns c = c .at-most .ensures ∙ rw (long (c .before))
 
 pub byte-count-spec : {M : Type 1} → statement M
-byte-count-spec = tie.close (tie.spec returns returns-2)
+byte-count-spec = tie.close (tie.spec at-most-requires returns)

@@ -1,5 +1,4 @@
--- `byte_ok` asks document 01’s questions in its order. Assumes nothing.
-use mathlib.Core.Path.{_≡_, sym, _∙_}
+-- `byte_ok` asks document 01’s questions in its order.
 use borrow.Author.Tests.{eq-eqb, ne-eqb, le-leb, lt-leb, lt-ltb, le-ltb}
 use Rattle.config.specs.ConfigByte.{byteOk}
 use borrow.Author.Needs.{needs}
@@ -33,9 +32,6 @@ returns-4 c = let d = c .before in
     let b = d .before in
     let a = b .before in
     rw (← a .before .value .ensures, ne-eqb _ _ (a .if1 .left), ne-eqb _ _ (b .if2 .left), ne-eqb _ _ (d .if3 .left), lt-leb _ _ (c .if4 .taken))
-
-cast-if5 : tie.Need-cast-if5
-cast-if5 c = search needs
 
 returns-5 : tie.Need-returns-5
 unfolding byteOk
@@ -84,7 +80,6 @@ byte-ok-spec =
     returns-2
     returns-3
     returns-4
-    cast-if5
     returns-5
     capability-at-requires
     enum-told

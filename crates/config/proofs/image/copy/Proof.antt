@@ -1,19 +1,14 @@
--- `copy`: after i bytes the image has a part of i bytes; past its end nothing more is copied. Assumes nothing.
-use Prim.Native.Nat.{ℕ, _+_, _-_, _≤_, _<_, min}
+-- `copy`: after i bytes the image has a part of i bytes; past its end nothing more is copied.
+use Prim.Native.Nat.{_-_, _≤_}
 use mathlib.Core.Path.{_≡_, refl, sym, _∙_}
 use mathlib.Core.List.{[], _∷_}
 use native.Mathlib.Omega.{arith}
-use borrow.Author.Count.{falls}
 use borrow.Author.Needs.{needs}
 use lib.ListN.{length, length-set}
 use Rattle.config.specs.Field.{part, laid}
-use Rattle.config.proofs.Fields.{part-none, part-more, part-reach}
+use Rattle.config.proofs.Copies.{part-none, part-more, part-reach}
 use Rattle.config.proofs.image.copy.Statement.{statement}
 use Rattle.config.proofs.image.copy.Tie as tie
-use Rattle.config.proofs.image.copy.Reads as reads
-use Rattle.config.proofs.image.copy.Lts as lts
-use Rattle.config.proofs.image.byte_at.Reads as byte-at-reads
-use Rattle.config.proofs.image.past.Reads as past-reads
 
 abbrev Inv-loop : tie.InvT-loop
 Inv-loop image₀ offset many base bytes room i₀ image i =
@@ -22,50 +17,39 @@ Inv-loop image₀ offset many base bytes room i₀ image i =
 abbrev μ-loop : tie.MeasureT-loop
 μ-loop image₀ offset many base bytes room i₀ image i = many - i
 
--- src/image.rt:29:9
 past-requires : tie.Need-past-requires Inv-loop μ-loop
 past-requires c κs = search needs
 
--- src/image.rt:31:5
 loop-holds : tie.Need-loop-holds Inv-loop μ-loop
 loop-holds c = (omega arith, c .past .ensures, sym (part-none _ _ _ _), refl)
 
--- src/image.rt:33:13
 same-length : tie.Need-same-length Inv-loop μ-loop
 same-length c = c .before .before .loop .inv .3
 
--- src/image.rt:33:13
 returns : tie.Need-returns Inv-loop μ-loop
 returns c =
     let a = c .before .before .before .before .before .before .args in
     let l = c .before .before .loop in
     l .inv .2 ∙ part-reach (a .image .now) (a .offset) (l .i) (a .length) (a .base) (a .bytes .now) (omega arith)
 
--- src/image.rt:35:18
 add-at : tie.Need-add-at Inv-loop μ-loop
 add-at c = omega arith
 
--- src/image.rt:36:36
 past-requires-2 : tie.Need-past-requires-2 Inv-loop μ-loop
 past-requires-2 c κs = search needs
 
--- src/image.rt:36:21
 byte-at-requires : tie.Need-byte-at-requires Inv-loop μ-loop
 byte-at-requires c κs = search needs
 
--- src/image.rt:36:9
 slice-write-image : tie.Need-slice-write-image Inv-loop μ-loop
 slice-write-image c = omega arith
 
--- src/image.rt:37:9
 add-i : tie.Need-add-i Inv-loop μ-loop
 add-i c = omega arith
 
--- src/image.rt:31:5
 loop-less : tie.Need-loop-less Inv-loop μ-loop
 loop-less c = omega arith
 
--- src/image.rt:31:5
 loop-again : tie.Need-loop-again Inv-loop μ-loop
 loop-again c =
     let a = c .before .before .before .before .before .before .before .before .args in
@@ -76,11 +60,9 @@ loop-again c =
       simp length-set (l .inv .3),
     )
 
--- src/image.rt:26:1
 same-length-2 : tie.Need-same-length-2 Inv-loop μ-loop
 same-length-2 c = c .before .loop .inv .3
 
--- src/image.rt:26:1
 returns-2 : tie.Need-returns-2 Inv-loop μ-loop
 returns-2 c =
     let a = c .before .before .before .before .before .args in

@@ -1,4 +1,4 @@
--- `put_byte` lays one field. Assumes nothing.
+-- `put_byte` lays one field.
 use mathlib.Core.Path.{_∙_}
 use borrow.Author.Needs.{needs}
 use Rattle.config.proofs.Fields.{laid-put}

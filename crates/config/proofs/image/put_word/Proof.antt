@@ -1,4 +1,4 @@
--- `put_word` lays one field. Assumes nothing.
+-- `put_word` lays one field.
 use mathlib.Core.Path.{_∙_}
 use borrow.Author.Needs.{needs}
 use Rattle.config.proofs.Fields.{laid-put}

@@ -1,5 +1,5 @@
--- `put_bar` lays the register where there is a BAR. Assumes nothing.
-use mathlib.Core.Path.{_≡_, sym, _∙_}
+-- `put_bar` lays the register where there is a BAR.
+use mathlib.Core.Path.{sym, _∙_}
 use borrow.Author.Tests.{eq-eqb, ne-eqb}
 use Rattle.config.proofs.Fields.{laid-none, laid-put}
 use borrow.Author.Needs.{needs}

@@ -1,18 +1,19 @@
--- `put_body` lays the part of the bytes that is the capability’s. Assumes nothing.
-use Prim.Native.Nat.{ℕ, _<_}
-use mathlib.Core.Path.{_≡_, sym, _∙_}
+-- `put_body` lays the part of the bytes that is the capability’s.
+use Prim.Native.Nat.{_<_}
+use mathlib.Core.Path.{_≡_}
 use native.Mathlib.Omega.{arith}
 use lib.ListN.{length}
-use Rattle.capability.proofs.Spans.{long-unmapped}
-use Rattle.config.proofs.PowerOns.{kept-below, kept-is}
+use Rattle.address.specs.Limits.{capabilityRoom}
+use Rattle.word.proofs.Mapped.{long-unmapped}
+use Rattle.config.proofs.Layings.{kept-below, kept-is}
 use borrow.Author.Needs.{needs}
 use Rattle.config.proofs.power_on.put_body.Statement.{statement}
 use Rattle.config.proofs.power_on.put_body.Tie as tie
 
-long : (c : tie.Start) → length (c .args .t3 .capabilities) ≡ 16
+long : (c : tie.Start) → length (c .args .t3 .capabilities) ≡ capabilityRoom
 long c = search (needs, long-unmapped)
 
-below : (c : tie.Start) → c .args .i < 16
+below : (c : tie.Start) → c .args .i < capabilityRoom
 below c = omega (arith, long c, kept-below (c .args .t3) (c .args .i) (c .pre))
 
 mul-capability : tie.Need-mul-capability
@@ -24,8 +25,8 @@ element-copy-out-capability c = below (c .before .before)
 cast-length : tie.Need-cast-length
 cast-length c = search needs
 
-start-at-requires : tie.Need-start-at-requires
-start-at-requires c κs = search needs
+capability-start-requires : tie.Need-capability-start-requires
+capability-start-requires c κs = search needs
 
 cast-start : tie.Need-cast-start
 cast-start c = search needs
@@ -43,7 +44,7 @@ returns : tie.Need-returns
 returns c = let p = c .before .before in
     let s = p .before .before in
     let a = s .before .before .before .before .before in
-    rw (p .copy .ensures, s .start-at .ensures, kept-is (a .args .t3) (a .args .i) (a .pre))
+    rw (p .copy .ensures, s .capability-start .ensures, kept-is (a .args .t3) (a .args .i) (a .pre))
 
 pub put-body-spec : {M : Type 1} → statement M
 put-body-spec =
@@ -52,7 +53,7 @@ put-body-spec =
     mul-capability
     element-copy-out-capability
     cast-length
-    start-at-requires
+    capability-start-requires
     cast-start
     add-copy
     copy-requires

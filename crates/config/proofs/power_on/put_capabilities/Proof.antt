@@ -1,14 +1,15 @@
--- `put_capabilities`: after i capabilities the image has the fields of those, and the mask their masks. Assumes nothing.
-use Prim.Native.Nat.{ℕ, _+_, _-_, _≤_, _<_}
+-- `put_capabilities`: after i capabilities the image has the fields of those, and the mask their masks.
+use Prim.Native.Nat.{_+_, _-_, _≤_}
 use mathlib.Core.List.{[], _∷_, _++_}
-use mathlib.Core.Path.{_≡_, refl, sym, ap, _∙_}
+use mathlib.Core.Path.{_≡_, refl, ap, _∙_}
 use native.Mathlib.Omega.{arith}
 use borrow.Author.Needs.{needs}
 use lib.ListN.{length}
+use Rattle.capability.specs.Owner.{capabilityCount}
 use Rattle.config.specs.Field.{laid}
-use Rattle.config.specs.PowerOn.{capabilityCount, headerFields, bodyField, capabilityFields, capabilityMasks}
-use Rattle.config.proofs.Fields.{laid-none, laid-more, laid-append, laid-length}
-use Rattle.config.proofs.PowerOns.{capability-none, capability-more, masks-none, masks-more}
+use Rattle.config.specs.PowerOn.{headerFields, bodyField, capabilityFields, capabilityMasks}
+use Rattle.config.proofs.Fields.{laid-append, laid-length}
+use Rattle.config.proofs.Stages.{laid-first, laid-next}
 use Rattle.config.proofs.power_on.put_capabilities.Statement.{statement}
 use Rattle.config.proofs.power_on.put_capabilities.Tie as tie
 
@@ -22,7 +23,7 @@ capability-count-requires : tie.Need-capability-count-requires Inv-loop μ-loop
 capability-count-requires c κs = search needs
 
 loop-holds : tie.Need-loop-holds Inv-loop μ-loop
-loop-holds c = (omega arith, c .capability-count .ensures, rw capability-none (sym (laid-none _)), rw masks-none (sym (laid-none _)), refl, refl)
+loop-holds c = (omega arith, c .capability-count .ensures, laid-first _ _, laid-first _ _, refl, refl)
 
 put-header-requires : tie.Need-put-header-requires Inv-loop μ-loop
 put-header-requires c κs = omega (arith, c .before .before .loop .inv .1)
@@ -47,9 +48,9 @@ loop-again c =
     let l = h .before .before .before .loop in
     let a = h .before .before .before .before .before .before .before .before .before .args in
     let e : b .put-body .last .0 ≡ laid (a .image .now) (capabilityFields (a .placed) (a .bodies .now) (l .i + 1)) =
-    rw (b .put-body .ensures, h .put-header .ensures, laid-append) (laid-more (a .image .now) (l .image) (capabilityFields (a .placed) (a .bodies .now) (l .i)) (headerFields (a .placed) (l .i) ++ (bodyField (a .placed) (a .bodies .now) (l .i) ∷ [])) (capabilityFields (a .placed) (a .bodies .now) (l .i + 1)) (l .inv .2) (capability-more _ _ _)) in
+    rw (b .put-body .ensures, h .put-header .ensures, laid-append) (laid-next (λ i. headerFields (a .placed) i ++ (bodyField (a .placed) (a .bodies .now) i ∷ [])) (a .image .now) (l .image) (l .i) (l .inv .2)) in
     let f : m .put-body2 .last .0 ≡ laid (a .mask .now) (capabilityMasks (a .placed) (a .masks .now) (l .i + 1)) =
-    m .put-body2 .ensures ∙ laid-more (a .mask .now) (l .mask) (capabilityMasks (a .placed) (a .masks .now) (l .i)) _ (capabilityMasks (a .placed) (a .masks .now) (l .i + 1)) (l .inv .3) (masks-more _ _ _) in
+    m .put-body2 .ensures ∙ laid-next (λ i. bodyField (a .placed) (a .masks .now) i ∷ []) (a .mask .now) (l .mask) (l .i) (l .inv .3) in
     (omega arith, l .inv .1, e, f, ap length e ∙ laid-length _ _, ap length f ∙ laid-length _ _)
 
 same-length : tie.Need-same-length Inv-loop μ-loop

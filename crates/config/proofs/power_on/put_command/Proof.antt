@@ -1,4 +1,4 @@
--- `put_command` lays two fields. Assumes nothing.
+-- `put_command` lays two fields.
 use borrow.Author.Needs.{needs}
 use Rattle.config.proofs.Fields.{laid-append}
 use Rattle.config.proofs.power_on.put_command.Statement.{statement}

@@ -1,15 +1,17 @@
--- `put_config_bytes`: after i bytes the image has the values of those, and the mask their masks. Assumes nothing.
-use Prim.Native.Nat.{ℕ, _+_, _-_, _≤_}
-use mathlib.Core.Path.{_≡_, refl, sym, ap, _∙_}
+-- `put_config_bytes`: after i bytes the image has the values of those, and the mask their masks.
+use Prim.Native.Nat.{_+_, _-_, _≤_}
+use mathlib.Core.Path.{_≡_, refl, ap, _∙_}
 use native.Mathlib.Omega.{arith}
 use borrow.Author.Needs.{needs}
-use lib.ListN.{length}
-use Rattle.capability.proofs.Spans.{long-unmapped}
+use mathlib.Core.List.{[], _∷_}
+use lib.ListN.{length, getD}
+use Rattle.address.specs.Limits.{configByteRoom}
+use Rattle.word.proofs.Mapped.{long-unmapped}
 use Rattle.config.specs.Field.{laid}
-use Rattle.config.specs.ConfigByte.{byteCount}
-use Rattle.config.specs.PowerOn.{byteValues, byteMasks}
-use Rattle.config.proofs.Fields.{laid-none, laid-more, laid-length}
-use Rattle.config.proofs.PowerOns.{config-none, config-more}
+use Rattle.config.specs.ConfigByte.{noConfigByte, byteCount}
+use Rattle.config.specs.PowerOn.{configField, byteValues, byteMasks}
+use Rattle.config.proofs.Fields.{laid-length}
+use Rattle.config.proofs.Stages.{laid-first, laid-next}
 use Rattle.config.proofs.power_on.put_config_bytes.Statement.{statement}
 use Rattle.config.proofs.power_on.put_config_bytes.Tie as tie
 
@@ -23,9 +25,9 @@ byte-count-requires : tie.Need-byte-count-requires Inv-loop μ-loop
 byte-count-requires c κs = search needs
 
 loop-holds : tie.Need-loop-holds Inv-loop μ-loop
-loop-holds c = (omega arith, c .byte-count .ensures, rw config-none (sym (laid-none _)), rw config-none (sym (laid-none _)), refl, refl)
+loop-holds c = (omega arith, c .byte-count .ensures, laid-first _ _, laid-first _ _, refl, refl)
 
-long : (c : tie.Start Inv-loop μ-loop) → length (c .args .t3 .bytes) ≡ 32
+long : (c : tie.Start Inv-loop μ-loop) → length (c .args .t3 .bytes) ≡ configByteRoom
 long c = search (needs, long-unmapped)
 
 mul-byte : tie.Need-mul-byte Inv-loop μ-loop
@@ -59,8 +61,8 @@ loop-again c =
     let l = v .before .before .before .before .before .before .loop in
     let a = v .before .before .before .before .before .before .before .before .before .before .args in
     let o = v .before .before .value .ensures in
-    let e : v .put-byte .last .0 ≡ laid (a .image .now) (byteValues (a .t3) (l .i + 1)) = v .put-byte .ensures ∙ rw o (laid-more (a .image .now) (l .image) (byteValues (a .t3) (l .i)) _ (byteValues (a .t3) (l .i + 1)) (l .inv .2) (config-more _ _ _)) in
-    let f : m .put-byte2 .last .0 ≡ laid (a .mask .now) (byteMasks (a .t3) (l .i + 1)) = m .put-byte2 .ensures ∙ rw o (laid-more (a .mask .now) (l .mask) (byteMasks (a .t3) (l .i)) _ (byteMasks (a .t3) (l .i + 1)) (l .inv .3) (config-more _ _ _)) in
+    let e : v .put-byte .last .0 ≡ laid (a .image .now) (byteValues (a .t3) (l .i + 1)) = v .put-byte .ensures ∙ rw o (laid-next (λ i. configField (λ b. b .value) (getD (a .t3 .bytes) i noConfigByte) ∷ []) (a .image .now) (l .image) (l .i) (l .inv .2)) in
+    let f : m .put-byte2 .last .0 ≡ laid (a .mask .now) (byteMasks (a .t3) (l .i + 1)) = m .put-byte2 .ensures ∙ rw o (laid-next (λ i. configField (λ b. b .mask) (getD (a .t3 .bytes) i noConfigByte) ∷ []) (a .mask .now) (l .mask) (l .i) (l .inv .3)) in
     (omega arith, l .inv .1, e, f, ap length e ∙ laid-length _ _, ap length f ∙ laid-length _ _)
 
 same-length : tie.Need-same-length Inv-loop μ-loop

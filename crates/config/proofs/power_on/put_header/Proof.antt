@@ -1,19 +1,20 @@
--- `put_header` lays the id and the next offset. Assumes nothing.
-use Prim.Native.Nat.{ℕ, _<_}
-use mathlib.Core.Path.{_≡_, sym, _∙_}
+-- `put_header` lays the id and the next offset.
+use Prim.Native.Nat.{_<_}
+use mathlib.Core.Path.{_≡_}
 use native.Mathlib.Omega.{arith}
 use lib.ListN.{length}
-use Rattle.capability.proofs.Spans.{long-unmapped}
+use Rattle.address.specs.Limits.{capabilityRoom}
+use Rattle.word.proofs.Mapped.{long-unmapped}
 use Rattle.config.proofs.Fields.{laid-append, laid-put}
-use Rattle.config.proofs.PowerOns.{kept-below, kept-is}
+use Rattle.config.proofs.Layings.{kept-below, kept-is}
 use borrow.Author.Needs.{needs}
 use Rattle.config.proofs.power_on.put_header.Statement.{statement}
 use Rattle.config.proofs.power_on.put_header.Tie as tie
 
-long : (c : tie.Start) → length (c .args .t2 .capabilities) ≡ 16
+long : (c : tie.Start) → length (c .args .t2 .capabilities) ≡ capabilityRoom
 long c = search (needs, long-unmapped)
 
-below : (c : tie.Start) → c .args .i < 16
+below : (c : tie.Start) → c .args .i < capabilityRoom
 below c = omega (arith, long c, kept-below (c .args .t2) (c .args .i) (c .pre))
 
 mul-capability : tie.Need-mul-capability
@@ -22,8 +23,8 @@ mul-capability c = omega (arith, below (c .before))
 element-copy-out-capability : tie.Need-element-copy-out-capability
 element-copy-out-capability c = below (c .before)
 
-start-at-requires : tie.Need-start-at-requires
-start-at-requires c κs = search needs
+capability-start-requires : tie.Need-capability-start-requires
+capability-start-requires c κs = search needs
 
 cast-start : tie.Need-cast-start
 cast-start c = search needs
@@ -34,11 +35,11 @@ put-byte-requires c κs = search needs
 add-put : tie.Need-add-put
 add-put c = search needs
 
-add-start-at : tie.Need-add-start-at
-add-start-at c = omega (arith, below (c .before .before .before .before .before .before .before .before))
+add-capability-start : tie.Need-add-capability-start
+add-capability-start c = omega (arith, below (c .before .before .before .before .before .before .before .before))
 
-start-at-requires-2 : tie.Need-start-at-requires-2
-start-at-requires-2 c κs = search needs
+capability-start-requires-2 : tie.Need-capability-start-requires-2
+capability-start-requires-2 c κs = search needs
 
 cast-put : tie.Need-cast-put
 cast-put c = search needs
@@ -54,7 +55,7 @@ returns c = let p = c .before .before in
     let b = p .before .before .before .before .before in
     let s = b .before .before in
     let a = s .before .before .before in
-    rw (p .put .ensures, b .put-byte .ensures, p .before .start-at2 .ensures, s .start-at .ensures, laid-put, kept-is (a .args .t2) (a .args .i) (a .pre)) (simp laid-append)
+    rw (p .put .ensures, b .put-byte .ensures, p .before .capability-start2 .ensures, s .capability-start .ensures, laid-put, kept-is (a .args .t2) (a .args .i) (a .pre)) (simp laid-append)
 
 pub put-header-spec : {M : Type 1} → statement M
 put-header-spec =
@@ -62,12 +63,12 @@ put-header-spec =
     (tie.spec
     mul-capability
     element-copy-out-capability
-    start-at-requires
+    capability-start-requires
     cast-start
     put-byte-requires
     add-put
-    add-start-at
-    start-at-requires-2
+    add-capability-start
+    capability-start-requires-2
     cast-put
     put-requires
     same-length

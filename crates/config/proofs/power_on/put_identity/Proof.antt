@@ -1,4 +1,4 @@
--- `put_identity` lays nine fields, one after the other. Assumes nothing.
+-- `put_identity` lays nine fields, one after the other.
 use borrow.Author.Needs.{needs}
 use Rattle.config.proofs.Fields.{laid-append}
 use Rattle.config.proofs.power_on.put_identity.Statement.{statement}

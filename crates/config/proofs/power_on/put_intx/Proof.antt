@@ -1,6 +1,6 @@
--- `put_intx` lays two fields for a pin, none without INTx. Assumes nothing.
+-- `put_intx` lays two fields for a pin, none without INTx.
 use borrow.Author.Needs.{needs}
-use mathlib.Core.Path.{sym, _∙_}
+use mathlib.Core.Path.{sym}
 use Rattle.config.proofs.Fields.{laid-append, laid-none}
 use Rattle.config.proofs.power_on.put_intx.Statement.{statement}
 use Rattle.config.proofs.power_on.put_intx.Tie as tie

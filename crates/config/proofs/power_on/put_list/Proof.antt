@@ -1,5 +1,5 @@
--- `put_list` lays two fields with any capability, none without. Assumes nothing.
-use mathlib.Core.Path.{_≡_, sym, _∙_}
+-- `put_list` lays two fields with any capability, none without.
+use mathlib.Core.Path.{sym}
 use borrow.Author.Tests.{eq-eqb, ne-eqb}
 use Rattle.config.proofs.Fields.{laid-none, laid-append, laid-put}
 use borrow.Author.Needs.{needs}
@@ -15,8 +15,8 @@ returns c = rw (← c .before .capability-count .ensures, eq-eqb _ _ (c .if1 .ta
 put-byte-requires : tie.Need-put-byte-requires
 put-byte-requires c κs = search needs
 
-start-at-requires : tie.Need-start-at-requires
-start-at-requires c κs = search needs
+capability-start-requires : tie.Need-capability-start-requires
+capability-start-requires c κs = search needs
 
 cast-put : tie.Need-cast-put
 cast-put c = search needs
@@ -31,7 +31,7 @@ returns-2 : tie.Need-returns-2
 returns-2 c = let p = c .before .before in
     let b = p .before .before .before .before .before in
     let n = b .before .before .before in
-    rw (← n .capability-count .ensures, ne-eqb _ _ (b .before .before .if1 .left), p .put .ensures, b .put-byte .ensures, p .before .start-at .ensures, laid-put) (simp laid-append)
+    rw (← n .capability-count .ensures, ne-eqb _ _ (b .before .before .if1 .left), p .put .ensures, b .put-byte .ensures, p .before .capability-start .ensures, laid-put) (simp laid-append)
 
 pub put-list-spec : {M : Type 1} → statement M
 put-list-spec =
@@ -40,7 +40,7 @@ put-list-spec =
     capability-count-requires
     returns
     put-byte-requires
-    start-at-requires
+    capability-start-requires
     cast-put
     put-requires
     same-length

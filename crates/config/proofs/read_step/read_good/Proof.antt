@@ -1,9 +1,7 @@
--- `read_good` asks the registers first, then the effects. Assumes nothing.
-use Prim.Native.Nat.{ℕ}
+-- `read_good` asks the registers first, then the effects.
 use mathlib.Core.Bool.{true, false}
-use mathlib.Core.Path.{_≡_, sym, ap, _∙_}
+use mathlib.Core.Path.{_≡_, sym, _∙_}
 use Rattle.config.specs.State.{inBar}
-use Rattle.config.specs.Read.{readGood}
 use Rattle.config.proofs.Reading.{read-register, read-elsewhere}
 use borrow.Author.Needs.{needs}
 use Rattle.config.proofs.read_step.read_good.Statement.{statement}

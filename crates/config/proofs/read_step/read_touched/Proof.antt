@@ -1,5 +1,4 @@
--- `read_touched` goes by the three ways of touching. Assumes nothing.
-use mathlib.Core.Path.{_≡_, sym, _∙_}
+-- `read_touched` goes by the three ways of touching.
 use borrow.Author.Needs.{needs}
 use Rattle.config.proofs.read_step.read_touched.Statement.{statement}
 use Rattle.config.proofs.read_step.read_touched.Tie as tie

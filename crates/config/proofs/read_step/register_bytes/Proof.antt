@@ -1,7 +1,6 @@
--- `register_bytes` reads the four bytes of what the register shows. Assumes nothing.
-use Prim.Native.Nat.{ℕ}
-use mathlib.Core.Path.{_≡_, sym, _∙_}
+-- `register_bytes` reads the four bytes of what the register shows.
 use lib.ListN.{replicate}
+use Rattle.address.specs.Layout.{barRegisterSize}
 use Rattle.config.specs.Read.{registerBytes}
 use Rattle.config.proofs.Reading.{put-all}
 use borrow.Author.Needs.{needs}
@@ -31,7 +30,7 @@ read-requires c κs = search needs
 
 returns : tie.Need-returns
 unfolding registerBytes
-returns c = cc (put-all (replicate 4 0) (c .before .before .before .before .raw-dword .result))
+returns c = cc (put-all (replicate barRegisterSize 0) (c .before .before .before .before .raw-dword .result))
 
 pub register-bytes-spec : {M : Type 1} → statement M
 register-bytes-spec =

@@ -1,8 +1,8 @@
--- `reset` restores everything, then counts where there is a count left. Assumes nothing.
+-- `reset` restores everything, then counts where there is a count left.
 use Prim.Native.Nat.{_<_}
 use native.Mathlib.Omega.{arith}
 use Rattle.config.specs.Command.{largestRevision}
-use mathlib.Core.Path.{_≡_, refl, sym, _∙_}
+use mathlib.Core.Path.{sym}
 use Rattle.config.proofs.Resets.{reset-exhausted, reset-restored}
 use borrow.Author.Needs.{needs}
 use Rattle.config.proofs.reset_step.reset.Statement.{statement}

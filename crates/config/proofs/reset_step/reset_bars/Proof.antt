@@ -1,21 +1,22 @@
--- `reset_bars` resets slot by slot. Assumes nothing.
-use Prim.Native.Nat.{ℕ, _+_, _-_, _≤_, _<_}
-use mathlib.Core.Path.{_≡_, refl, sym, _∙_}
+-- `reset_bars` resets slot by slot.
+use Prim.Native.Nat.{_-_, _≤_}
+use mathlib.Core.Path.{_≡_, sym}
 use native.Mathlib.Omega.{arith}
 use borrow.Author.Needs.{needs}
-use lib.ListN.{getD, length}
+use lib.ListN.{length}
 use Rattle.word.proofs.Mapped.{mapped, mapped-none, mapped-more, mapped-all, long-unmapped}
+use Rattle.address.specs.Layout.{barCount}
 use Rattle.bar.specs.State.{resetOf}
 use Rattle.config.proofs.reset_step.reset_bars.Statement.{statement}
 use Rattle.config.proofs.reset_step.reset_bars.Tie as tie
 
 abbrev Inv-loop : tie.InvT-loop
-Inv-loop out₀ i₀ out i = (i ≤ 6) × (out ≡ mapped resetOf i out₀)
+Inv-loop out₀ i₀ out i = (i ≤ barCount) × (out ≡ mapped resetOf i out₀)
 
 abbrev μ-loop : tie.MeasureT-loop
-μ-loop out₀ i₀ out i = 6 - i
+μ-loop out₀ i₀ out i = barCount - i
 
-long : (c : tie.Start Inv-loop μ-loop) → length (c .args .bars) ≡ 6
+long : (c : tie.Start Inv-loop μ-loop) → length (c .args .bars) ≡ barCount
 long c = search (needs, long-unmapped)
 
 loop-holds : tie.Need-loop-holds Inv-loop μ-loop

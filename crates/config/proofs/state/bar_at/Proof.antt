@@ -1,5 +1,6 @@
--- `bar_at` has the blank past the last slot. Assumes nothing.
+-- `bar_at` has the blank past the last slot.
 use mathlib.Core.Path.{_≡_, sym, _∙_}
+use Rattle.address.specs.Layout.{barCount}
 use Rattle.word.proofs.Mapped.{long-unmapped}
 use Rattle.config.specs.State.{noState}
 use lib.ListN.{length, List·getD-eq-default}
@@ -7,7 +8,7 @@ use borrow.Author.Needs.{needs}
 use Rattle.config.proofs.state.bar_at.Statement.{statement}
 use Rattle.config.proofs.state.bar_at.Tie as tie
 
-long : (c : tie.Start) → length (c .args .t1) ≡ 6
+long : (c : tie.Start) → length (c .args .t1) ≡ barCount
 long c = search (needs, long-unmapped)
 
 mul-result : tie.Need-mul-result
@@ -19,16 +20,13 @@ array-copy-out-result c = search needs
 returns : tie.Need-returns
 returns c = search needs
 
-zero-requires : tie.Need-zero-requires
-zero-requires c κs = search needs
-
-new-requires : tie.Need-new-requires
-new-requires c κs = search needs
+no-state-requires : tie.Need-no-state-requires
+no-state-requires c κs = search needs
 
 returns-2 : tie.Need-returns-2
-returns-2 c = c .new .ensures ∙ rw (c .before .zero .ensures) (sym (List·getD-eq-default (c .before .before .before .args .t1) noState (rw (long (c .before .before .before)) (c .before .before .if1 .left))))
+returns-2 c = c .no-state .ensures ∙ sym (List·getD-eq-default (c .before .before .args .t1) noState (rw (long (c .before .before)) (c .before .if1 .left)))
 
 pub bar-at-spec : {M : Type 1} → statement M
 bar-at-spec =
     tie.close
-    (tie.spec mul-result array-copy-out-result returns zero-requires new-requires returns-2)
+    (tie.spec mul-result array-copy-out-result returns no-state-requires returns-2)

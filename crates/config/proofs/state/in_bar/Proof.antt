@@ -1,5 +1,5 @@
--- `in_bar` goes by the six registers and the size in the slot. Assumes nothing.
-use mathlib.Core.Path.{_≡_, sym, _∙_}
+-- `in_bar` goes by the six registers and the size in the slot.
+use mathlib.Core.Path.{sym}
 use Rattle.config.proofs.Slots.{bar-before, bar-after, bar-there}
 use borrow.Author.Needs.{needs}
 use Rattle.config.proofs.state.in_bar.Statement.{statement}

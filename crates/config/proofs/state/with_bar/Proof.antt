@@ -1,14 +1,14 @@
--- `with_bar` sets one slot; past the last nothing is set. Assumes nothing.
+-- `with_bar` sets one slot; past the last nothing is set.
 use mathlib.Core.Path.{_≡_}
 use borrow.Author.Needs.{needs}
 use lib.ListN.{length}
 use lib.Seq.{set-out}
+use Rattle.address.specs.Layout.{barCount}
 use Rattle.word.proofs.Mapped.{long-unmapped}
-use borrow.Author.Needs.{needs}
 use Rattle.config.proofs.state.with_bar.Statement.{statement}
 use Rattle.config.proofs.state.with_bar.Tie as tie
 
-long : (c : tie.Start) → length (c .args .state .bars) ≡ 6
+long : (c : tie.Start) → length (c .args .state .bars) ≡ barCount
 long c = search (needs, long-unmapped)
 
 returns : tie.Need-returns

@@ -1,4 +1,4 @@
--- `store_live` stores at once where no watched bit changes, counts where one does, and stops where there is no count left. Assumes nothing.
+-- `store_live` stores at once where no watched bit changes, counts where one does, and stops where there is no count left.
 use Rattle.word.specs.Store.{stored}
 use Rattle.config.specs.Command.{watched}
 use mathlib.Core.Path.{_≡_, refl, sym, _∙_}

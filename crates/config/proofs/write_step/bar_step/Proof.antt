@@ -1,5 +1,5 @@
--- `bar_step` does what the BAR asks for. Assumes nothing.
-use Prim.Native.Nat.{ℕ, _%_}
+-- `bar_step` does what the BAR asks for.
+use Prim.Native.Nat.{_%_}
 use mathlib.Core.Path.{_≡_, sym, _∙_}
 use Rattle.address.specs.Layout.{barRegisterSize}
 use Rattle.bar.specs.State.{asks}

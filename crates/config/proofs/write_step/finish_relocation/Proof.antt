@@ -1,5 +1,5 @@
--- `finish_relocation` changes the slot that it is told. Assumes nothing.
-use mathlib.Core.Path.{_≡_, sym, _∙_}
+-- `finish_relocation` changes the slot that it is told.
+use mathlib.Core.Path.{_∙_}
 use borrow.Author.Needs.{needs}
 use Rattle.config.proofs.write_step.finish_relocation.Statement.{statement}
 use Rattle.config.proofs.write_step.finish_relocation.Tie as tie

@@ -1,4 +1,4 @@
--- `plain` answers with no body. Assumes nothing.
+-- `plain` answers with no body.
 use borrow.Author.Needs.{needs}
 use Rattle.config.proofs.write_step.plain.Statement.{statement}
 use Rattle.config.proofs.write_step.plain.Tie as tie

@@ -1,6 +1,5 @@
--- `store_step` is the leaf on copies of the state's arrays. Assumes nothing.
-use mathlib.Core.Bool.{Bool, true, false, not}
-use mathlib.Core.Path.{_≡_, sym, _∙_}
+-- `store_step` is the leaf on copies of the state's arrays.
+use mathlib.Core.Path.{sym, _∙_}
 use borrow.Author.Tests.{not-true, not-false}
 use Rattle.config.proofs.Writing.{store-kept, store-exhausted}
 use borrow.Author.Needs.{needs}

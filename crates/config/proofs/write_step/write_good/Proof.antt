@@ -1,6 +1,6 @@
--- `write_good` asks the registers first, then the effects. Assumes nothing.
+-- `write_good` asks the registers first, then the effects.
 use Prim.Native.Nat.{ℕ}
-use mathlib.Core.Bool.{true, false}
+use mathlib.Core.Bool.{false}
 use mathlib.Core.Path.{_≡_, sym, ap, _∙_}
 use Rattle.config.specs.State.{inBar}
 use Rattle.config.specs.Write.{writeGood}

@@ -1,5 +1,4 @@
--- `write_touched` goes by the three ways of touching. Assumes nothing.
-use mathlib.Core.Path.{_≡_, sym, _∙_}
+-- `write_touched` goes by the three ways of touching.
 use borrow.Author.Needs.{needs}
 use Rattle.config.proofs.write_step.write_touched.Statement.{statement}
 use Rattle.config.proofs.write_step.write_touched.Tie as tie

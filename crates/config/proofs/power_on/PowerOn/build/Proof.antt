@@ -1,17 +1,19 @@
--- `build` lays the fields of each stage over blank lists, in document 01’s order. Assumes nothing.
-use mathlib.Core.Path.{_≡_, refl, sym, ap, _∙_}
+-- `build` lays the fields of each stage over blank lists, in document 01’s order.
+use mathlib.Core.Path.{_≡_, sym}
 use lib.ListN.{length}
+use Rattle.address.specs.Layout.{configSpaceSize}
 use Rattle.config.specs.Field.{imageOf}
+use Rattle.config.specs.Space.{bodySpace}
 use Rattle.config.specs.PowerOn.{imageFields, maskFields, powerOnOf}
 use Rattle.config.proofs.Fields.{laid-append, laid-blank}
 use borrow.Author.Needs.{needs}
 use Rattle.config.proofs.power_on.PowerOn.build.Statement.{statement}
 use Rattle.config.proofs.power_on.PowerOn.build.Tie as tie
 
-long-bodies : (c : tie.Start) → length (c .args .contents .bodies) ≡ 192
+long-bodies : (c : tie.Start) → length (c .args .contents .bodies) ≡ bodySpace
 long-bodies c = search needs
 
-long-masks : (c : tie.Start) → length (c .args .contents .masks) ≡ 192
+long-masks : (c : tie.Start) → length (c .args .contents .masks) ≡ bodySpace
 long-masks c = search needs
 
 slice-aggregate-put-identity : tie.Need-slice-aggregate-put-identity
@@ -79,10 +81,10 @@ returns c =
     let x = m .before .before .before in
     let i = x .before .before .before in
     let a = i .before .before .before .before .before .args in
-    let e : k .put-capabilities .last .0 ≡ imageOf 256 (imageFields (a .contents) (a .bars) (a .placed)) =
-    rw (k .put-capabilities .ensures .0, q .put-list .ensures, r .put-bars .ensures, b .put-config-bytes .ensures .0, x .put-intx .ensures, i .put-identity .ensures, laid-append, laid-append, laid-append, laid-append, laid-append) (laid-blank 256 _) in
-    let f : k .put-capabilities .last .1 .0 ≡ imageOf 256 (maskFields (a .contents) (a .placed)) =
-    rw (k .put-capabilities .ensures .1, b .put-config-bytes .ensures .1, m .put-command .ensures, laid-append, laid-append) (laid-blank 256 _) in
+    let e : k .put-capabilities .last .0 ≡ imageOf configSpaceSize (imageFields (a .contents) (a .bars) (a .placed)) =
+    rw (k .put-capabilities .ensures .0, q .put-list .ensures, r .put-bars .ensures, b .put-config-bytes .ensures .0, x .put-intx .ensures, i .put-identity .ensures, laid-append, laid-append, laid-append, laid-append, laid-append) (laid-blank configSpaceSize _) in
+    let f : k .put-capabilities .last .1 .0 ≡ imageOf configSpaceSize (maskFields (a .contents) (a .placed)) =
+    rw (k .put-capabilities .ensures .1, b .put-config-bytes .ensures .1, m .put-command .ensures, laid-append, laid-append) (laid-blank configSpaceSize _) in
     rw (e, f)
 
 pub build-spec : {M : Type 1} → statement M

@@ -1,4 +1,4 @@
--- `FunctionState::new` copies the image and resets the BARs. Assumes nothing.
+-- `FunctionState::new` copies the image and resets the BARs.
 use borrow.Author.Needs.{needs}
 use Rattle.config.proofs.state.FunctionState.new.Statement.{statement}
 use Rattle.config.proofs.state.FunctionState.new.Tie as tie
