@@ -1,4 +1,4 @@
--- What an effect's answer says of the access.
+-- What an effect's answer says of the access: the effect that decides holds it, so it lies between the region's ends.
 use Prim.Native.Nat.{ℕ, _-_, _<_}
 use mathlib.Core.Bool.{Bool, true, false, cond}
 use mathlib.Core.Logic.{⊎-elim}

@@ -1,4 +1,4 @@
--- Which capability holds a byte, and the mode of each.
+-- Which capability holds a byte: what the search finds; and the mode of each byte, case by case.
 use Prim.Native.Nat.{ℕ, _<_}
 use mathlib.Core.Bool.{true, false}
 use mathlib.Core.List.{List}

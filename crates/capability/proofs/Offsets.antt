@@ -26,6 +26,10 @@ pub next-least : (n m : ℕ) → n ≤ m → m % alignment ≡ 0 → nextMultipl
 unfolding nextMultiple
 next-least n m h e = omega arith
 
+-- where capability k starts at most: a header, a body whose length is a byte, and the gap to a multiple of 4 take 260 bytes
+abbrev pub farthest : ℕ → ℕ
+farthest k = standardHeaderEnd + 260 * k
+
 module _ (length : ℕ → ℕ) where
   pub offset-first : offsetAt length 0 ≡ standardHeaderEnd
   unfolding offsetAt
@@ -58,8 +62,8 @@ module _ (length : ℕ → ℕ) where
   pub offset-ascends : (i k : ℕ) → i < k → offsetAt length i < offsetAt length k
   offset-ascends i k h = omega (arith, end-before i k h)
 
-  -- no offset is far: bodies of at most 255 bytes
-  pub offset-near : ((k : ℕ) → length k ≤ 255) → (k : ℕ) → offsetAt length k ≤ standardHeaderEnd + 260 * k
+  -- no offset is far
+  pub offset-near : ((k : ℕ) → length k ≤ 255) → (k : ℕ) → offsetAt length k ≤ farthest k
   unfolding offsetAt
   offset-near b zero = omega arith
   offset-near b (suc k) = omega (arith, b k, offset-near b k, next-near (endAt length k))

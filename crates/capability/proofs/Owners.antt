@@ -1,4 +1,4 @@
--- Who owns a byte, and which effect an access touches first.
+-- Who owns a byte, and which effect an access touches first: one search, for two tests.
 use Prim.Native.Nat.{ℕ, _+_, _<_}
 use mathlib.Core.Bool.{Bool, true, false}
 use mathlib.Core.Path.{_≡_}

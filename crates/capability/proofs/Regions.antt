@@ -1,4 +1,4 @@
--- Bytes of an access and a region as intervals.
+-- An access and a region, byte by byte and as intervals.
 use Prim.Native.Nat.{ℕ, _+_, _-_, _<_, _≤_}
 use mathlib.Core.Bool.{true, false}
 use mathlib.Core.Path.{_≡_, ap}
@@ -8,51 +8,44 @@ use lib.Dec.{leb}
 use Rattle.word.proofs.Tests.{both, never, same-test}
 use Rattle.word.proofs.Searches.{all-each, each-all}
 use Rattle.word.proofs.Intervals.{covers-in, covers-within, Within, Meeting, overlap-meeting, meeting-overlap, overlap-common, common-overlap}
-use Rattle.capability.specs.Owner.{effectAt, regionStart, inRegion, touches, holds}
+use Rattle.capability.specs.Owner.{effectAt, regionStart, regionFrom, regionTo, inRegion, touches, holds}
 use Rattle.capability.specs.declared.placed.Placed.{Placed}
 use Rattle.capability.specs.declared.placed.PlacedEffect.{PlacedEffect}
 
 module _ (p : Placed) (i : ℕ) where
-  -- where the region of the effect at i starts, and its length
-  abbrev pub startAt : ℕ
-  startAt = regionStart p (effectAt p i)
-
-  abbrev pub lengthAt : ℕ
-  lengthAt = effectAt p i .length
-
-  pub region-within : (j : ℕ) → inRegion p j i ≡ true → Within startAt lengthAt j
+  pub region-within : (j : ℕ) → inRegion p j i ≡ true → Within (regionFrom p i) (effectAt p i .length) j
   unfolding inRegion
-  region-within j e = covers-within startAt lengthAt j e
+  region-within j e = covers-within (regionFrom p i) (effectAt p i .length) j e
 
-  pub within-region : (j : ℕ) → startAt ≤ j → j < startAt + lengthAt → inRegion p j i ≡ true
+  pub within-region : (j : ℕ) → regionFrom p i ≤ j → j < regionTo p i → inRegion p j i ≡ true
   unfolding inRegion
-  within-region j a b = covers-in startAt lengthAt j a b
+  within-region j a b = covers-in (regionFrom p i) (effectAt p i .length) j a b
 
 -- an access touches a region where some byte of it lies in the region
 module _ (p : Placed) (o w i : ℕ) where
   pub touched-at : touches p o w i ≡ true → (k : ℕ) × (k < w) × (inRegion p (o + k) i ≡ true)
   unfolding touches inRegion
   touched-at e =
-      let r = overlap-common o w (startAt p i) (lengthAt p i) e in
+      let r = overlap-common o w (regionFrom p i) (effectAt p i .length) e in
       let a = covers-within o w (r .0) (r .1) in
       let q : o + (r .0 - o) ≡ r .0 = omega (arith, a .from) in
       (r .0 - o, omega (arith, a .from, a .to), rw q (r .2))
 
   pub at-touched : (k : ℕ) → k < w → inRegion p (o + k) i ≡ true → touches p o w i ≡ true
   unfolding touches inRegion
-  at-touched k h e = common-overlap o w (startAt p i) (lengthAt p i) (o + k) (covers-in o w (o + k) (omega arith) (omega arith)) e
+  at-touched k h e = common-overlap o w (regionFrom p i) (effectAt p i .length) (o + k) (covers-in o w (o + k) (omega arith) (omega arith)) e
 
   pub untouched-at : touches p o w i ≡ false → (k : ℕ) → k < w → inRegion p (o + k) i ≡ false
   untouched-at e k h = never (inRegion p (o + k) i) (λ t. both (at-touched k h t) e)
 
   -- that is, where the two overlap
-  pub touches-meeting : touches p o w i ≡ true → Meeting o w (startAt p i) (lengthAt p i)
+  pub touches-meeting : touches p o w i ≡ true → Meeting o w (regionFrom p i) (effectAt p i .length)
   unfolding touches
-  touches-meeting e = overlap-meeting o w (startAt p i) (lengthAt p i) e
+  touches-meeting e = overlap-meeting o w (regionFrom p i) (effectAt p i .length) e
 
-  pub meeting-touches : Meeting o w (startAt p i) (lengthAt p i) → touches p o w i ≡ true
+  pub meeting-touches : Meeting o w (regionFrom p i) (effectAt p i .length) → touches p o w i ≡ true
   unfolding touches
-  meeting-touches m = meeting-overlap o w (startAt p i) (lengthAt p i) m
+  meeting-touches m = meeting-overlap o w (regionFrom p i) (effectAt p i .length) m
 
   -- it is held where every byte lies in the region
   pub held-at : holds p o w i ≡ true → (k : ℕ) → k < w → inRegion p (o + k) i ≡ true
@@ -64,12 +57,12 @@ module _ (p : Placed) (o w i : ℕ) where
   at-held h = each-all (λ k. inRegion p (o + k) i) w h
 
   -- that is, where it lies between the region's ends
-  pub holds-is : startAt p i ≤ o → o + w ≤ startAt p i + lengthAt p i → holds p o w i ≡ true
+  pub holds-is : regionFrom p i ≤ o → o + w ≤ regionTo p i → holds p o w i ≡ true
   holds-is a b = at-held (λ k h. within-region p i (o + k) (omega arith) (omega arith))
 
   pub record Inside : Type 0 where
-    pub from-start : startAt p i ≤ o
-    pub to-end : o + w ≤ startAt p i + lengthAt p i
+    pub from-start : regionFrom p i ≤ o
+    pub to-end : o + w ≤ regionTo p i
 
   pub holds-inside : 0 < w → holds p o w i ≡ true → Inside
   holds-inside h e =
@@ -79,10 +72,10 @@ module _ (p : Placed) (o w i : ℕ) where
 
 -- the tests of `effect_holds`, on the effect e that was read at i and the start s of its region
 module _ (p : Placed) (i o w : ℕ) (e : PlacedEffect) (s : ℕ) (is-effect : e ≡ effectAt p i) (is-start : s ≡ regionStart p e) where
-  start-is : s ≡ startAt p i
+  start-is : s ≡ regionFrom p i
   start-is = rw is-effect at is-start
 
-  length-is : e .length ≡ lengthAt p i
+  length-is : e .length ≡ effectAt p i .length
   length-is = ap (λ (x : PlacedEffect). x .length) is-effect
 
   pub held-before : 0 < w → o < s → holds p o w i ≡ false

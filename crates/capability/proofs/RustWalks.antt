@@ -9,11 +9,11 @@ use borrow.Author.Tests.{lt-ltb, le-ltb, le-leb, ltb-true, leb-true, eqb-true, e
 use lib.Dec.{ltb, leb, eqb}
 use Rattle.word.proofs.Tests.{true-or-false, and-left, and-right, same-test, both, never}
 use Rattle.word.proofs.Searches.{First, first-or-none}
-use Rattle.capability.specs.Owner.{capabilityCount, effectCount, effectAt, startOf, touches, holds}
+use Rattle.capability.specs.Owner.{capabilityCount, effectCount, effectAt, startOf, regionFrom, regionTo, touches, holds}
 use Rattle.capability.specs.Touch.{allows, touchOf, answers}
 use Rattle.capability.specs.Laid.{finishOf}
 use Rattle.capability.specs.LaidApart.{LaidApart}
-use Rattle.capability.specs.RustWalk.{Found, none, one, bad, orNext, regionFrom, regionTo, reached, passes, step, walkEffects, crosses, bounded, walkCapabilities, rustTouch}
+use Rattle.capability.specs.RustWalk.{Found, none, one, bad, orNext, reached, passes, step, walkEffects, crosses, bounded, walkCapabilities, rustTouch}
 use Rattle.capability.specs.declared.placed.Placed.{Placed}
 use Rattle.capability.proofs.Regions.{at-touched, touches-meeting, meeting-touches, held-at, holds-is, holds-inside}
 use Rattle.capability.proofs.Touches.{touch-untouched}

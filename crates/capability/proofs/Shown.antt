@@ -1,4 +1,4 @@
--- What the record of a layout shows.
+-- What the record of a layout shows, answer by answer and place by place.
 use Prim.Native.Nat.{ℕ, _<_, _≤_}
 use mathlib.Core.Path.{_≡_, refl, ap}
 use native.Mathlib.Omega.{arith}

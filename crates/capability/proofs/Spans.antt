@@ -1,4 +1,4 @@
--- Capabilities and effects by index: past the last one all is blank.
+-- A capability as plain numbers: past the last one all are zero.
 use Prim.Native.Nat.{ℕ, _≤_}
 use mathlib.Core.Path.{_≡_, ap}
 use lib.ListN.{List·getD-eq-default}

@@ -1,4 +1,4 @@
--- What a view says.
+-- What a view says: its tests one by one, and that the last one never fails on what a layout gives.
 use Prim.Native.Nat.{ℕ, _+_, _-_, _<_, _≤_}
 use mathlib.Core.Bool.{Bool, true, false, _&&_, and-false}
 use mathlib.Core.List.{List, []}
@@ -86,9 +86,6 @@ body-byte p i image k h = getD-take (bodyLength p i) (drop (bodyStart p i) image
 pub body-long : (p : Placed) (i : ℕ) (image : List ℕ) → bodyStart p i + bodyLength p i ≤ length image → length (bodyIn p i image) ≡ bodyLength p i
 unfolding bodyIn
 body-long p i image h = simp (length-take, length-drop) (omega arith)
-
-pub add-sub : (a b : ℕ) → a + b - a ≡ b
-add-sub a b = omega arith
 
 -- in what a layout gives the body always ends in the space: so there is none for document 01's two reasons only, an index past the last and an image of another length
 pub laid-viewed : (space : ℕ) (p : Placed) → Laid space p → (i : ℕ) (live power : List ℕ) → i < p .count → length live ≡ space → length power ≡ space → viewed p i live power space ≡ true

@@ -45,9 +45,16 @@ spanOf p i = record { id = capabilityAt p i .id; start = startOf p i; length = c
 unfoldable pub regionStart : Placed → PlacedEffect → ℕ
 regionStart p e = startOf p (e .capability) + e .offset
 
--- whether config byte j lies in the region of the effect at index i
+-- where the region of the effect at index i starts and ends
+abbrev pub regionFrom : Placed → ℕ → ℕ
+regionFrom p i = regionStart p (effectAt p i)
+
+abbrev pub regionTo : Placed → ℕ → ℕ
+regionTo p i = regionFrom p i + effectAt p i .length
+
+-- whether config byte j lies in it
 unfoldable pub inRegion : Placed → ℕ → ℕ → Bool
-inRegion p j i = covers (regionStart p (effectAt p i)) (effectAt p i .length) j
+inRegion p j i = covers (regionFrom p i) (effectAt p i .length) j
 
 -- the effect that owns byte j: the first whose region covers it (regions never overlap in what the layout gives, so it is the only one: `owner-covers`)
 unfoldable pub ownerOf : Placed → ℕ → Owner
@@ -55,7 +62,7 @@ ownerOf p j = firstOf owner.Effect owner.Nobody (inRegion p j) (effectCount p)
 
 -- the walk over the effects: whether some byte, or every byte, of the access lies in the region of the effect at index i, and the first that is touched
 unfoldable pub touches : Placed → ℕ → ℕ → ℕ → Bool
-touches p o w i = overlap o w (regionStart p (effectAt p i)) (effectAt p i .length)
+touches p o w i = overlap o w (regionFrom p i) (effectAt p i .length)
 
 unfoldable pub holds : Placed → ℕ → ℕ → ℕ → Bool
 holds p o w i = allBelow (λ k. inRegion p (o + k) i) w

@@ -2,7 +2,7 @@
 use Prim.Native.Nat.{ℕ, zero, suc, _+_}
 use mathlib.Core.Bool.{Bool, _&&_, _||_, cond}
 use lib.Dec.{ltb, leb, eqb}
-use Rattle.capability.specs.Owner.{capabilityCount, effectCount, effectAt, startOf, regionStart}
+use Rattle.capability.specs.Owner.{capabilityCount, effectCount, effectAt, startOf, regionFrom, regionTo}
 use Rattle.capability.specs.Touch.{allows, effectAnswer}
 use Rattle.capability.specs.Laid.{finishOf}
 use Rattle.capability.specs.declared.placed.Placed.{Placed}
@@ -32,13 +32,6 @@ abbrev pub told : Placed → ℕ → Found → Touch
 told p o none = touch.Untouched
 told p o (one i) = effectAnswer p o i
 told p o bad = touch.Refused
-
--- where the region of the effect at index i starts and ends
-abbrev pub regionFrom : Placed → ℕ → ℕ
-regionFrom p i = regionStart p (effectAt p i)
-
-abbrev pub regionTo : Placed → ℕ → ℕ
-regionTo p i = regionFrom p i + effectAt p i .length
 
 -- `config_offset < end && start < access_end`, of an effect of the capability at index c
 abbrev pub reached : Placed → ℕ → ℕ → ℕ → ℕ → Bool

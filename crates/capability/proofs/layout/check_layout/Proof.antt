@@ -1,23 +1,22 @@
 -- `check_layout`: the first i capabilities are without fault, and the next starts at `start`, which is not far.
-use Prim.Native.Nat.{ℕ, _+_, _-_, _*_, _<_, _≤_}
+use Prim.Native.Nat.{ℕ, _+_, _-_, _<_, _≤_}
 use mathlib.Core.Bool.{false}
 use mathlib.Core.Path.{_≡_, sym, ap, _∙_}
 use native.Mathlib.Omega.{arith}
 use borrow.Author.Count.{falls, below-none, below-more}
 use borrow.Author.Needs.{needs}
-use Rattle.address.specs.Layout.{standardHeaderEnd}
 use Rattle.capability.specs.Size.{headerSize}
 use Rattle.capability.specs.Declaration.{lengthAt}
 use Rattle.capability.specs.Offset.{nextMultiple, offsetAt, endAt, capabilityEnd}
 use Rattle.capability.specs.Repeat.{repeatsAt}
-use Rattle.capability.proofs.Offsets.{next-near, offset-first, offset-next}
+use Rattle.capability.proofs.Offsets.{farthest, next-near, offset-first, offset-next}
 use Rattle.capability.proofs.Rulings.{Fine, rule-placed, rule-repeated, rule-past}
 use Rattle.capability.proofs.layout.check_layout.Statement.{statement}
 use Rattle.capability.proofs.layout.check_layout.Tie as tie
 
 abbrev Inv-loop : tie.InvT-loop
 Inv-loop space declared count start₀ i₀ start i =
-    (i ≤ count) × (start ≤ standardHeaderEnd + 260 * i) × (start ≡ offsetAt (lengthAt declared) i) × ((j : ℕ) → j < i → Fine space declared j)
+    (i ≤ count) × (start ≤ farthest i) × (start ≡ offsetAt (lengthAt declared) i) × ((j : ℕ) → j < i → Fine space declared j)
 
 abbrev μ-loop : tie.MeasureT-loop
 μ-loop space declared count start₀ i₀ start i = count - i

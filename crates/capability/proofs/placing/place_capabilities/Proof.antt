@@ -1,24 +1,23 @@
 -- `place_capabilities`: the first i places are filled, and the next capability starts at `start`, which is not far.
-use Prim.Native.Nat.{_+_, _-_, _*_, _≤_}
+use Prim.Native.Nat.{_-_, _≤_}
 use mathlib.Core.Path.{_≡_, sym, ap, _∙_}
 use native.Mathlib.Omega.{arith}
 use borrow.Author.Count.{falls}
 use borrow.Author.Needs.{needs}
 use Rattle.word.specs.Table.{table, filled}
 use Rattle.word.proofs.Tables.{filled-none, filled-more}
-use Rattle.address.specs.Layout.{standardHeaderEnd}
 use Rattle.address.specs.Limits.{capabilityRoom}
 use Rattle.capability.specs.Declaration.{lengthAt}
 use Rattle.capability.specs.Offset.{nextMultiple, capabilityEnd, offsetAt, endAt}
 use Rattle.capability.specs.Blank.{noPlacedCapability}
 use Rattle.capability.specs.Layout.{placedCapability}
-use Rattle.capability.proofs.Offsets.{next-near, offset-first, offset-next}
+use Rattle.capability.proofs.Offsets.{farthest, next-near, offset-first, offset-next}
 use Rattle.capability.proofs.placing.place_capabilities.Statement.{statement}
 use Rattle.capability.proofs.placing.place_capabilities.Tie as tie
 
 abbrev Inv-loop : tie.InvT-loop
 Inv-loop space count declared out₀ start₀ i₀ out start i =
-    (i ≤ count) × (start ≤ standardHeaderEnd + 260 * i) × (start ≡ offsetAt (lengthAt declared) i) × (out ≡ filled capabilityRoom i (placedCapability declared) noPlacedCapability)
+    (i ≤ count) × (start ≤ farthest i) × (start ≡ offsetAt (lengthAt declared) i) × (out ≡ filled capabilityRoom i (placedCapability declared) noPlacedCapability)
 
 abbrev μ-loop : tie.MeasureT-loop
 μ-loop space count declared out₀ start₀ i₀ out start i = count - i

@@ -1,12 +1,12 @@
 -- `body_part` cuts the body out of the chosen image, which is long enough where there is a view.
-use Prim.Native.Nat.{_+_, _-_, _≤_}
+use Prim.Native.Nat.{ℕ, _+_, _-_, _≤_}
 use mathlib.Core.Bool.{true}
 use mathlib.Core.Path.{_≡_, sym, _∙_}
 use native.Mathlib.Omega.{arith}
 use borrow.Author.Needs.{needs}
 use lib.ListN.{length}
 use Rattle.capability.specs.View.{viewed, bodyIn}
-use Rattle.capability.proofs.Views.{viewed-seen, shown-live, shown-power, shown-none, add-sub}
+use Rattle.capability.proofs.Views.{viewed-seen, shown-live, shown-power, shown-none}
 use Rattle.capability.proofs.view.body_part.Statement.{statement}
 use Rattle.capability.proofs.view.body_part.Tie as tie
 
@@ -27,6 +27,10 @@ reaches : (c : tie.After-body-length) → (c .before .body-start .result + c .bo
 reaches c =
     let s = viewed-seen _ _ _ _ _ (there c) in
     rw (c .before .body-start .ensures .0, c .body-length .ensures, s .live-whole, s .power-whole) (s .ends, s .ends)
+
+-- the length of a part, from its ends
+between : (a b : ℕ) → a + b - a ≡ b
+between a b = omega arith
 
 add-end : tie.Need-add-end
 add-end c = omega (arith, reaches c .0)
@@ -56,13 +60,13 @@ returns : tie.Need-returns
 unfolding bodyIn
 returns c =
     let d = c .before .before in
-    rw (add-sub (d .before .body-start .result) (d .body-length .result), d .before .body-start .ensures .0, d .body-length .ensures, c .before .if2 .taken) (sym (shown-live _ _ _ _ _ (there d)))
+    rw (between (d .before .body-start .result) (d .body-length .result), d .before .body-start .ensures .0, d .body-length .ensures, c .before .if2 .taken) (sym (shown-live _ _ _ _ _ (there d)))
 
 returns-2 : tie.Need-returns-2
 unfolding bodyIn
 returns-2 c =
     let d = c .before .before in
-    rw (add-sub (d .before .body-start .result) (d .body-length .result), d .before .body-start .ensures .0, d .body-length .ensures, c .before .if2 .left) (sym (shown-power _ _ _ _ _ (there d)))
+    rw (between (d .before .body-start .result) (d .body-length .result), d .before .body-start .ensures .0, d .body-length .ensures, c .before .if2 .left) (sym (shown-power _ _ _ _ _ (there d)))
 
 returns-3 : tie.Need-returns-3
 returns-3 c = sym (shown-none _ _ _ _ _ _ (sym (c .before .before .has-view .ensures) ∙ c .before .if1 .left))
