@@ -2,6 +2,7 @@
 use Prim.Native.Nat.{ℕ}
 use mathlib.Core.Bool.{Bool, true, false, cond}
 use Rattle.word.specs.Number.{merge}
+use Rattle.address.specs.Kinds.{slot}
 use Rattle.bar.specs.Range.{range}
 use Rattle.bar.specs.Register.{sizeMask, committed, classOf}
 use Rattle.bar.specs.declared.range.Range.{Range}
@@ -13,6 +14,10 @@ use Rattle.bar.specs.declared.bar_state.Relocation.the-variants.{Accepte
 
 abbrev pub state : Plan → ℕ → Bool → BarState
 state p address probing = record { plan = p; address = address; probing = probing }
+
+-- what stands in a slot with no BAR: a plan of size 0
+abbrev pub noState : BarState
+noState = state (record { slot = slot 0; size = 0; address = 0 }) 0 false
 
 -- as placed, not probing: at the start and after a reset
 abbrev pub fresh : Plan → BarState

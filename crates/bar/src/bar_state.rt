@@ -1,7 +1,7 @@
 // The state of a placed BAR.
 ghost use mathlib.Core.Path.{_≡_};
 ghost use Rattle.bar.specs.Register.{committed};
-ghost use Rattle.bar.specs.State.{fresh, resetOf, shown, asks, probed, relocated, rangeOf};
+ghost use Rattle.bar.specs.State.{noState, fresh, resetOf, shown, asks, probed, relocated, rangeOf};
 use crate::range::Range;
 use crate::register::candidate_address;
 use crate::register::committed_dword;
@@ -46,6 +46,17 @@ impl BarState {
             address,
             probing: false,
         }
+    }
+
+    // What stands in a slot with no BAR.
+    pub fn none() -> BarState
+        ensures { λ r. ⌜ r ≡ noState ⌝ }
+    {
+        BarState::new(Plan {
+            slot: Slot::zero(),
+            size: 0,
+            address: 0,
+        })
     }
 
     // The dword that a write merges into, also while probing.

@@ -18,7 +18,7 @@ use Rattle.capability.specs.declared.placed.PlacedEffect.{PlacedEffect}
 use Rattle.placement.specs.Examples.{padded}
 use Rattle.config.specs.ConfigByte.{noConfigByte}
 use Rattle.config.specs.Space.{bodySpace}
-use Rattle.config.specs.State.{noState}
+use Rattle.bar.specs.State.{noState}
 use Rattle.config.specs.PowerOn.{powerOnOf}
 use Rattle.config.specs.Start.{powerOnState}
 use Rattle.config.specs.declared.function.Contents.{Contents}

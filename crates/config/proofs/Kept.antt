@@ -18,7 +18,8 @@ use Rattle.bar.specs.declared.bar_state.Relocation.the-variants as relocation
 use Rattle.config.specs.Command.{Follows, stays}
 use Rattle.config.specs.Same.{Same}
 use Rattle.config.specs.Space.{spaceOf}
-use Rattle.config.specs.State.{barAt, slotAt, withBar, noState}
+use Rattle.config.specs.State.{barAt, slotAt, withBar}
+use Rattle.bar.specs.State.{noState}
 use Rattle.config.specs.Write.{writeOf, writeNumber, relocatedAt}
 use Rattle.config.specs.Reset.{restored, resetDone}
 use Rattle.config.specs.declared.state.FunctionState.{FunctionState}

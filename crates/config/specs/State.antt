@@ -1,20 +1,17 @@
 -- A function's state: what its slots hold, and which offsets are a BAR's register.
 use Prim.Native.Nat.{ℕ, _-_, _/_}
-use mathlib.Core.Bool.{Bool, false, not, _&&_}
+use mathlib.Core.Bool.{Bool, not, _&&_}
 use mathlib.Core.List.{List}
 use lib.Dec.{leb, ltb, eqb}
 use lib.ListN.{getD, set, replicate}
-use Rattle.address.specs.Kinds.{slot}
 use Rattle.address.specs.Layout.{barStart, barEnd, barRegisterSize}
+use Rattle.bar.specs.State.{noState}
 use Rattle.bar.specs.declared.bar_state.BarState.{BarState}
 use Rattle.capability.specs.Size.{bodyMost}
 use Rattle.capability.specs.declared.snapshot.Snapshot.{Snapshot}
 use Rattle.config.specs.declared.state.FunctionState.{FunctionState}
 
--- what stands in a slot with no BAR: a plan of size 0
-abbrev pub noState : BarState
-noState = record { plan = record { slot = slot 0; size = 0; address = 0 }; address = 0; probing = false }
-
+-- the BAR at an index, that of an empty slot past the last
 abbrev pub barAt : List BarState → ℕ → BarState
 barAt bars i = getD bars i noState
 

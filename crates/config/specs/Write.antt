@@ -74,5 +74,8 @@ unfoldable pub writeOf : FunctionState → ℕ → ℕ → ℕ → WriteDone
 writeOf f o w v = writeChecked f v (accessOf (spaceOf f) o w)
 
 -- the second step: "probing ends", and the candidate is taken or "the address stays"
+abbrev pub relocatedIn : FunctionState → ℕ → Relocation → FunctionState
+relocatedIn f i r = withBar f i (relocated (barAt (f .bars) i) r)
+
 abbrev pub relocatedAt : FunctionState → Slot → Relocation → FunctionState
-relocatedAt f s r = withBar f (indexOf s) (relocated (barAt (f .bars) (indexOf s)) r)
+relocatedAt f s r = relocatedIn f (indexOf s) r

@@ -1,13 +1,11 @@
 // A function's state.
 ghost use mathlib.Core.Path.{_≡_};
-ghost use Rattle.config.specs.State.{noState, inBar, barAt, slotAt, withBar, noBody};
+ghost use Rattle.config.specs.State.{inBar, barAt, slotAt, withBar, noBody};
 ghost use Rattle.config.specs.Space.{spaceOf};
-use address::Slot;
 use address::config_layout;
 use address::config_layout::CONFIG_SPACE_BYTES;
 use address::limits::BAR_SLOTS;
 use bar::BarState;
-use bar::Plan;
 use capability::CAPABILITY_BODY_MAX_SIZE;
 use capability::Placed;
 use capability::Snapshot;
@@ -40,17 +38,6 @@ pub fn slot_at(offset: usize) -> usize
     (offset - config_layout::CONFIG_BAR_START) / config_layout::CONFIG_BAR_REGISTER_SIZE
 }
 
-// What stands in a slot with no BAR.
-fn no_state() -> BarState
-    ensures { λ r. ⌜ r ≡ noState ⌝ }
-{
-    BarState::new(Plan {
-        slot: Slot::zero(),
-        size: 0,
-        address: 0,
-    })
-}
-
 // The BAR at an index; that of an empty slot past the last.
 pub fn bar_at(bars: [BarState; BAR_SLOTS], i: usize) -> BarState
     ensures { λ r. ⌜ r ≡ barAt bars i ⌝ }
@@ -58,7 +45,7 @@ pub fn bar_at(bars: [BarState; BAR_SLOTS], i: usize) -> BarState
     if i < BAR_SLOTS {
         return bars[i];
     }
-    no_state()
+    BarState::none()
 }
 
 // Whether an offset lies in the register of a slot that has a BAR.

@@ -1,7 +1,7 @@
 // A write to config space, in two steps where it asks for a relocation.
 ghost use mathlib.Core.Path.{_≡_};
 ghost use Rattle.config.specs.State.{noBody};
-ghost use Rattle.config.specs.Write.{writeNumber, writeDone, storeOf, barStep, writeTouched, writeGood, writeOf, relocatedAt};
+ghost use Rattle.config.specs.Write.{writeNumber, writeDone, storeOf, barStep, writeTouched, writeGood, writeOf, relocatedIn, relocatedAt};
 use crate::state::FunctionState;
 use crate::state::bar_at;
 use crate::state::in_bar;
@@ -180,12 +180,18 @@ pub fn write(state: FunctionState, offset: usize, width: usize, value: u64) -> W
     }
 }
 
-// The second step of a relocation: the bus accepted the candidate or did not.
-pub fn finish_relocation(state: FunctionState, slot: Slot, relocation: Relocation) -> FunctionState
-    ensures { λ r. ⌜ r ≡ relocatedAt state slot relocation ⌝ }
+// The second step of a relocation, at an index: the bus accepted the candidate or did not.
+pub fn finish_at(state: FunctionState, i: usize, relocation: Relocation) -> FunctionState
+    ensures { λ r. ⌜ r ≡ relocatedIn state i relocation ⌝ }
 {
-    let i = slot.index();
     let bars = state.bars;
     let bar = bar_at(bars, i);
     with_bar(state, i, bar.finish_relocation(relocation))
+}
+
+// The same at a slot.
+pub fn finish_relocation(state: FunctionState, slot: Slot, relocation: Relocation) -> FunctionState
+    ensures { λ r. ⌜ r ≡ relocatedAt state slot relocation ⌝ }
+{
+    finish_at(state, slot.index(), relocation)
 }

@@ -2,6 +2,7 @@
 ghost use mathlib.Core.Path.{_≡_};
 ghost use Prim.Native.Nat.{_<_};
 ghost use Rattle.placement.specs.Keys.{keyCount};
+ghost use Rattle.placement.specs.Place.{isPlace};
 ghost use Rattle.placement.specs.Passes.{fixedVerdict, fixedStep, fixedAfter};
 use crate::conflict::Conflict;
 use crate::conflict::conflict_with;
@@ -48,6 +49,20 @@ fn checked_bar_range(
     Verdict::Refused {
         number: NOT_MULTIPLE,
         key,
+    }
+}
+
+// Whether a BAR may stand at an address, given the ranges of others.
+pub fn is_place(aperture: Aperture, size: u64, placed: [Range; KEY_COUNT], address: u64) -> bool
+    ensures { λ r. ⌜ r ≡ isPlace aperture size placed address ⌝ }
+{
+    let range = Range {
+        start: address,
+        size,
+    };
+    match checked_bar_range(aperture, placed, 0, range) {
+        Verdict::Going => true,
+        Verdict::Refused { number: _, key: _ } => false,
     }
 }
 

@@ -14,6 +14,7 @@ pub use answer::PlacementAnswer;
 pub use answer::resolve_bar_addresses;
 pub use declared_bars::DeclaredBars;
 pub use declared_bars::FunctionBars;
+pub use fixed::is_place;
 pub use keys::KEY_COUNT;
 pub use search::Fit;
 pub use search::first_fit;

@@ -2,7 +2,7 @@
 use mathlib.Core.Path.{_≡_, sym, _∙_}
 use Rattle.address.specs.Layout.{barCount}
 use Rattle.word.proofs.Mapped.{long-unmapped}
-use Rattle.config.specs.State.{noState}
+use Rattle.bar.specs.State.{noState}
 use lib.ListN.{length, List·getD-eq-default}
 use borrow.Author.Needs.{needs}
 use Rattle.config.proofs.state.bar_at.Statement.{statement}
@@ -20,13 +20,13 @@ array-copy-out-result c = search needs
 returns : tie.Need-returns
 returns c = search needs
 
-no-state-requires : tie.Need-no-state-requires
-no-state-requires c κs = search needs
+none-requires : tie.Need-none-requires
+none-requires c κs = search needs
 
 returns-2 : tie.Need-returns-2
-returns-2 c = c .no-state .ensures ∙ sym (List·getD-eq-default (c .before .before .args .t1) noState (rw (long (c .before .before)) (c .before .if1 .left)))
+returns-2 c = c .none .ensures ∙ sym (List·getD-eq-default (c .before .before .args .t1) noState (rw (long (c .before .before)) (c .before .if1 .left)))
 
 pub bar-at-spec : {M : Type 1} → statement M
 bar-at-spec =
     tie.close
-    (tie.spec mul-result array-copy-out-result returns no-state-requires returns-2)
+    (tie.spec mul-result array-copy-out-result returns none-requires returns-2)
