@@ -15,6 +15,7 @@ abbrev pub intxOf : ℕ → ℕ → Bool → Intx
 intxOf pin line true = intx.Pin pin line
 intxOf pin line false = intx.Absent
 
+-- the contents that the numbers declare
 unfoldable pub contentsOf : ContentsNumbers → Contents
 contentsOf n =
     record { identity = n .identity; intx = intxOf (n .pin) (n .line) (n .«has_intx»); bytes = n .bytes; «byte_count» = n .«byte_count»; bodies = n .bodies; masks = n .masks }

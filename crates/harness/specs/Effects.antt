@@ -34,6 +34,7 @@ abbrev pub touchChecked : Placed → Bool → Access → Touched
 touchChecked p write access.Refused = touchedNone (accessNumber access.Refused)
 touchChecked p write (access.Good o w) = touchNumbers (touchOf p (o .0) w write)
 
+-- a number for each mode
 abbrev pub modeNumber : ByteMode → ℕ
 modeNumber mode.Outside = 0
 modeNumber mode.Constant = 1

@@ -27,6 +27,7 @@ abbrev pub readPlain : ℕ → ℕ → Snapshot → ReadOut
 readPlain n v b =
     record { refusal = n; inside = false; value = v; «capability_id» = 0; region = noPlacedEffect; offset = 0; body = b }
 
+-- a value, or the numbers of an effect with the copy of the live body, or a refusal alone
 abbrev pub readNumbers : Snapshot → ReadAnswer → ReadOut
 readNumbers b (read.Value v) = readPlain (readNumber (read.Value v)) v b
 readNumbers b (read.Effect id region offset) =
@@ -34,6 +35,7 @@ readNumbers b (read.Effect id region offset) =
 readNumbers b read.BadAccess = readPlain (readNumber read.BadAccess) 0 b
 readNumbers b read.BadEffect = readPlain (readNumber read.BadEffect) 0 b
 
+-- the reply of a read
 abbrev pub readReplyNumbers : ReadReply → ReadOut
 readReplyNumbers r = readNumbers (r .body) (r .answer)
 
@@ -56,6 +58,7 @@ writePlain n kind slot address b f =
 abbrev pub writeAt : WriteAnswer → ℕ → ℕ → Snapshot → FunctionState → WriteOut
 writeAt a slot address b f = writePlain (writeNumber a) (kindOf a) slot address b f
 
+-- a slot and an address where the write asks for them, or the numbers of an effect, or a refusal alone
 abbrev pub writeNumbers : Snapshot → FunctionState → WriteAnswer → WriteOut
 writeNumbers b f write.Stored = writeAt write.Stored 0 0 b f
 writeNumbers b f (write.Probing slot) = writeAt (write.Probing slot) slot 0 b f
@@ -66,6 +69,7 @@ writeNumbers b f write.BadAccess = writeAt write.BadAccess 0 0 b f
 writeNumbers b f write.BadEffect = writeAt write.BadEffect 0 0 b f
 writeNumbers b f write.Exhausted = writeAt write.Exhausted 0 0 b f
 
+-- the reply of a write, with the state after it
 abbrev pub writeDoneNumbers : WriteDone → WriteOut
 writeDoneNumbers d = writeNumbers (d .reply .body) (d .state) (d .reply .answer)
 
@@ -79,5 +83,6 @@ abbrev pub finished : FunctionState → Relocation → SlotAnswer → FunctionSt
 finished f r (slotAnswer.Good s) = relocatedAt f s r
 finished f r slotAnswer.Bad = f
 
+-- the answer of a reset, with the state after it
 abbrev pub resetNumbers : ResetDone → ResetOut
 resetNumbers d = record { refusal = resetNumber (d .answer); state = d .state }

@@ -31,9 +31,11 @@ abbrev pub accessOrRead : AccessAnswer → EffectAccess
 accessOrRead (Good a) = a
 accessOrRead Bad = Read
 
+-- the access that a number is taken for
 abbrev pub accessTaken : ℕ → EffectAccess
 accessTaken number = accessOrRead (accessOfNumber number)
 
+-- the effect that the numbers are taken for
 abbrev pub effectTaken : PlacedEffect → Effect
 effectTaken e = effect (e .id) (e .capability) (e .offset) (e .length) (accessTaken (e .access))
 
@@ -41,6 +43,7 @@ effectTaken e = effect (e .id) (e .capability) (e .offset) (e .length) (accessTa
 unfoldable pub capabilitiesIn : List ℕ → List ℕ → List Capability
 capabilitiesIn ids lengths = table capabilityRoom (λ k. capability (getD ids k 0) (min (getD lengths k 0) bodyMost))
 
+-- the effects that the numbers declare, in their order
 unfoldable pub effectsIn : List PlacedEffect → List Effect
 effectsIn effects = table effectRoom (λ j. effectTaken (getD effects j noPlacedEffect))
 
@@ -60,9 +63,11 @@ faultIndex layoutAnswer.Placed = 0
 faultIndex (layoutAnswer.Repeated k) = k
 faultIndex (layoutAnswer.PastEnd k) = k
 
+-- what is told of a layout: its number, the capability at fault, what is placed
 abbrev pub laidOut : LayoutDone → LaidOut
 laidOut d = record { refusal = layoutAnswerNumber (d .answer); index = faultIndex (d .answer); placed = d .placed }
 
+-- the layout of what the numbers declare
 unfoldable pub layOut : DeclaredNumbers → LaidOut
 layOut n = laidOut (layoutOf configSpaceSize (declaredIn n))
 

@@ -40,9 +40,11 @@ barIn n i s =
 unfoldable pub slotsIn : PlaceNumbers → ℕ → List MemoryBar
 slotsIn n i = table barCount (barIn n i)
 
+-- the BARs of function i, with its device
 abbrev pub functionIn : PlaceNumbers → ℕ → FunctionBars
 functionIn n i = record { device = getD (n .devices) i 0; count = barCount; bars = slotsIn n i }
 
+-- all functions, also those past the count
 unfoldable pub functionsIn : PlaceNumbers → List FunctionBars
 functionsIn n = table functionRoom (functionIn n)
 
@@ -56,8 +58,10 @@ answerOut Placed addresses = record { refusal = placementNumber Placed; device =
 answerOut (Refused number device s) addresses =
     record { refusal = placementNumber (Refused number device s); device = device; slot = s; addresses = addresses }
 
+-- what is told of a placement: the answer, and the address of each key
 abbrev pub placedOut : Placement → PlacedOut
 placedOut p = answerOut (p .answer) (p .addresses)
 
+-- the placement of what the numbers declare
 unfoldable pub placeOf : PlaceNumbers → PlacedOut
 placeOf n = placedOut (placementOf (record { start = n .start; end = n .end }) (declaredBars n))
