@@ -1,43 +1,44 @@
-//! Links the static library, and says which functions of the boundary it has.
+//! Links the static library, and says which functions it has.
 
 use std::{env, fs, path::Path, process::exit};
 
-/// Every function of the boundary that this crate declares.
-const FUNCTIONS: [&str; 19] = [
-    "vg_check",
-    "vg_size_ok",
-    "vg_size_mask",
-    "vg_shown",
-    "vg_bar_asks",
-    "vg_body_ok",
-    "vg_effect_ok",
-    "vg_layout",
-    "vg_touch",
-    "vg_mode",
-    "vg_snapshot",
-    "vg_place",
-    "vg_power_on",
-    "vg_config_bytes",
-    "vg_start",
-    "vg_read",
-    "vg_write",
-    "vg_finish",
-    "vg_reset",
+/// Every function that this crate declares.
+const FUNCTIONS: [&str; 20] = [
+    "harness_check",
+    "harness_size",
+    "harness_size_mask",
+    "harness_shown",
+    "harness_bar_asks",
+    "harness_body",
+    "harness_effect",
+    "harness_layout",
+    "harness_touch",
+    "harness_mode",
+    "harness_view",
+    "harness_snapshot",
+    "harness_place",
+    "harness_power_on",
+    "harness_config_bytes",
+    "harness_start",
+    "harness_read",
+    "harness_write",
+    "harness_finish",
+    "harness_reset",
 ];
 
 fn main() {
     println!("cargo::rerun-if-env-changed=VOUSSGLEN_LIBRARY");
     let Ok(file) = env::var("VOUSSGLEN_LIBRARY") else {
-        refuse("VOUSSGLEN_LIBRARY does not name libboundary.a; use compare/run");
+        refuse("VOUSSGLEN_LIBRARY does not name libharness.a; use compare/run");
     };
     println!("cargo::rerun-if-changed={file}");
     let Ok(archive) = fs::read(&file) else { refuse(&format!("no file {file}")) };
     let out = env::var("OUT_DIR").expect("cargo sets it");
     let out = Path::new(&out);
     // A copy, so that any file name will do.
-    fs::write(out.join("libboundary.a"), &archive).expect("a copy");
+    fs::write(out.join("libharness.a"), &archive).expect("a copy");
     println!("cargo::rustc-link-search=native={}", out.display());
-    println!("cargo::rustc-link-lib=static=boundary");
+    println!("cargo::rustc-link-lib=static=harness");
     let symbols = symbols(&archive).unwrap_or_else(|| refuse(&format!("{file}: an archive without an index")));
     fs::write(out.join("have.rs"), have(&symbols)).expect("a list");
 }

@@ -1,4 +1,16 @@
-//! The structs of the boundary, field by field as in crates/*/src. All go by value.
+//! The structs that cross, field by field as in crates/*/src. All go by value.
+
+/// The lengths of the arrays: document 01's limits, its config space, and the part of it that bodies can lie in.
+pub const FUNCTIONS: usize = 8;
+pub const SLOTS: usize = 6;
+pub const KEYS: usize = FUNCTIONS * SLOTS;
+pub const CAPABILITIES: usize = 16;
+pub const EFFECTS: usize = 32;
+pub const CONFIG_BYTES: usize = 32;
+pub const SPACE: usize = 0x100;
+pub const HEADER: usize = 0x40;
+pub const BODY_SPACE: usize = SPACE - HEADER;
+pub const LONGEST_BODY: usize = 253;
 
 #[repr(C)]
 #[derive(Clone, Copy, Debug, Default, PartialEq, Eq)]
@@ -28,7 +40,7 @@ pub struct BarState {
 #[repr(C)]
 #[derive(Clone, Copy, Debug, Default, PartialEq, Eq)]
 pub struct Bars {
-    pub bars: [BarState; 6],
+    pub bars: [BarState; SLOTS],
 }
 
 /// `address` is 0 for a probe.
@@ -60,9 +72,9 @@ pub struct PlacedEffect {
 #[repr(C)]
 #[derive(Clone, Copy, Debug, Default, PartialEq, Eq)]
 pub struct Placed {
-    pub capabilities: [PlacedCapability; 16],
+    pub capabilities: [PlacedCapability; CAPABILITIES],
     pub count: usize,
-    pub effects: [PlacedEffect; 32],
+    pub effects: [PlacedEffect; EFFECTS],
     pub effect_count: usize,
 }
 
@@ -70,10 +82,10 @@ pub struct Placed {
 #[repr(C)]
 #[derive(Clone, Copy, Debug, Default, PartialEq, Eq)]
 pub struct DeclaredNumbers {
-    pub ids: [u8; 16],
-    pub lengths: [u8; 16],
+    pub ids: [u8; CAPABILITIES],
+    pub lengths: [u8; CAPABILITIES],
     pub count: usize,
-    pub effects: [PlacedEffect; 32],
+    pub effects: [PlacedEffect; EFFECTS],
     pub effect_count: usize,
 }
 
@@ -89,7 +101,7 @@ pub struct LaidOut {
 #[derive(Clone, Copy, Debug)]
 pub struct Snapshot {
     pub length: u8,
-    pub bytes: [u8; 253],
+    pub bytes: [u8; LONGEST_BODY],
 }
 
 #[repr(C)]
@@ -131,26 +143,34 @@ pub struct ContentsNumbers {
     pub has_intx: bool,
     pub pin: u8,
     pub line: u8,
-    pub bytes: [ConfigByte; 32],
+    pub bytes: [ConfigByte; CONFIG_BYTES],
     pub byte_count: usize,
-    pub bodies: [u8; 192],
-    pub masks: [u8; 192],
+    pub bodies: [u8; BODY_SPACE],
+    pub masks: [u8; BODY_SPACE],
+}
+
+/// `index` is 0 where nothing is refused.
+#[repr(C)]
+#[derive(Clone, Copy, Debug)]
+pub struct BytesOut {
+    pub refusal: u8,
+    pub index: usize,
 }
 
 #[repr(C)]
 #[derive(Clone, Copy, Debug)]
 pub struct PowerOn {
-    pub image: [u8; 256],
-    pub mask: [u8; 256],
+    pub image: [u8; SPACE],
+    pub mask: [u8; SPACE],
 }
 
 #[repr(C)]
 #[derive(Clone, Copy, Debug)]
 pub struct FunctionState {
-    pub live: [u8; 256],
-    pub power_on: [u8; 256],
-    pub mask: [u8; 256],
-    pub bars: [BarState; 6],
+    pub live: [u8; SPACE],
+    pub power_on: [u8; SPACE],
+    pub mask: [u8; SPACE],
+    pub bars: [BarState; SLOTS],
     pub placed: Placed,
     pub revision: u64,
 }
@@ -189,17 +209,17 @@ pub struct ResetOut {
     pub state: FunctionState,
 }
 
-/// Place `i * 6 + slot` of the arrays is that slot of function `i`; functions by ascending device; size 0 is no BAR.
+/// Place `i * SLOTS + slot` of the arrays is that slot of function `i`; functions by ascending device; size 0 is no BAR.
 #[repr(C)]
 #[derive(Clone, Copy, Debug)]
 pub struct PlaceNumbers {
     pub start: u64,
     pub end: u64,
     pub count: usize,
-    pub devices: [u8; 8],
-    pub sizes: [u64; 48],
-    pub fixed: [bool; 48],
-    pub addresses: [u64; 48],
+    pub devices: [u8; FUNCTIONS],
+    pub sizes: [u64; KEYS],
+    pub fixed: [bool; KEYS],
+    pub addresses: [u64; KEYS],
 }
 
 #[repr(C)]
@@ -208,7 +228,7 @@ pub struct PlacedOut {
     pub refusal: u8,
     pub device: u8,
     pub slot: u8,
-    pub addresses: [u64; 48],
+    pub addresses: [u64; KEYS],
 }
 
 // Sizes by the rules of C, worked out by hand: a field lost or of another width shows here.
@@ -218,6 +238,7 @@ const _: () = assert!(size_of::<Snapshot>() == 254);
 const _: () = assert!(size_of::<Touched>() == 12);
 const _: () = assert!(size_of::<DeclaredNumbers>() == 240);
 const _: () = assert!(size_of::<ContentsNumbers>() == 536);
+const _: () = assert!(size_of::<BytesOut>() == 16);
 const _: () = assert!(size_of::<FunctionState>() == 1320);
 const _: () = assert!(size_of::<ReadOut>() == 280);
 const _: () = assert!(size_of::<WriteOut>() == 1608);

@@ -1,6 +1,6 @@
 //! Declared capabilities as numbers, and what is asked of them.
 
-use library::{DeclaredNumbers, Placed, PlacedEffect, Snapshot};
+use library::{DeclaredNumbers, Placed, PlacedEffect, SPACE, Snapshot};
 use rules::{Capability, Effect, LayoutRefusal, Mode, Touch, Touched};
 
 fn numbers(effect: &Effect, capability: usize) -> PlacedEffect {
@@ -8,7 +8,7 @@ fn numbers(effect: &Effect, capability: usize) -> PlacedEffect {
     PlacedEffect { id, capability: capability as u8, offset, length, access }
 }
 
-/// None past a limit of the boundary.
+/// None past a limit.
 fn declared(capabilities: &[Capability]) -> Option<DeclaredNumbers> {
     let mut out = DeclaredNumbers { count: capabilities.len(), ..DeclaredNumbers::default() };
     for (index, capability) in capabilities.iter().enumerate() {
@@ -28,7 +28,7 @@ pub fn first_bad_effect(mask: &[u8], effects: &[Effect]) -> Option<Option<usize>
     so_far.lengths[0] = u8::try_from(mask.len()).ok()?;
     for (index, effect) in effects.iter().enumerate() {
         let effect = numbers(effect, 0);
-        if !library::effect_ok(so_far, mask, effect)? {
+        if !super::passes(library::effect(so_far, mask, effect)?, 11)? {
             return Some(Some(index));
         }
         *so_far.effects.get_mut(index)? = effect;
@@ -52,8 +52,8 @@ pub fn placed(capabilities: &[Capability]) -> Option<Placed> {
 }
 
 /// What `part` gives for each capability, each at its place in config space.
-pub fn spread(placed: &Placed, capabilities: &[Capability], part: fn(&Capability) -> &[u8]) -> [u8; 256] {
-    let mut out = [0; 256];
+pub fn spread(placed: &Placed, capabilities: &[Capability], part: fn(&Capability) -> &[u8]) -> [u8; SPACE] {
+    let mut out = [0; SPACE];
     for (it, capability) in placed.capabilities.iter().zip(capabilities) {
         let start = usize::from(it.offset.0) + 2;
         // A place outside is a difference elsewhere; here it must not end the run.
@@ -92,10 +92,10 @@ pub fn touched(capability: u8, region: PlacedEffect, offset: u16, body: &Snapsho
     })
 }
 
-pub fn modes(capabilities: &[Capability]) -> Option<[Mode; 256]> {
+pub fn modes(capabilities: &[Capability]) -> Option<[Mode; SPACE]> {
     let placed = placed(capabilities)?;
     let mask = spread(&placed, capabilities, |it| &it.mask);
-    let mut out = [Mode::Outside; 256];
+    let mut out = [Mode::Outside; SPACE];
     for (offset, mode) in out.iter_mut().enumerate() {
         *mode = match library::mode(placed, &mask, offset)? {
             0 => Mode::Outside,
@@ -108,10 +108,15 @@ pub fn modes(capabilities: &[Capability]) -> Option<[Mode; 256]> {
     Some(out)
 }
 
-/// The boundary has no answer of none: past the last, and in another image, the wrapper gives it.
+/// The image is asked for as the live one and as the power-on one, each time beside a whole one; both have to answer alike.
 pub fn view(capabilities: &[Capability], index: usize, image: &[u8]) -> Option<Option<Vec<u8>>> {
     let placed = placed(capabilities)?;
-    if index >= placed.count || image.len() != 256 {
+    let whole = [0; SPACE];
+    let found = library::view(placed, index, image, &whole)?;
+    if found != library::view(placed, index, &whole, image)? {
+        return None;
+    }
+    if !found {
         return Some(None);
     }
     Some(Some(bytes(&library::snapshot(placed, image, index)?)?))

@@ -1,6 +1,6 @@
 //! One function: the power-on image, and steps on it.
 
-use library::{BarState, Bars, ContentsNumbers, FunctionState, Plan, Slot};
+use library::{BODY_SPACE, BarState, Bars, CONFIG_BYTES, ContentsNumbers, FunctionState, HEADER, Plan, SPACE, Slot};
 use rules::{Answer, Bar, End, Function, Image, Op, Story};
 
 use super::{
@@ -22,12 +22,12 @@ fn identity(it: &rules::Identity) -> library::Identity {
 }
 
 /// The part of config space that bodies and masks can lie in.
-fn from_0x40(bytes: [u8; 256]) -> [u8; 192] {
-    std::array::from_fn(|at| bytes[0x40 + at])
+fn behind_the_header(bytes: [u8; SPACE]) -> [u8; BODY_SPACE] {
+    std::array::from_fn(|at| bytes[HEADER + at])
 }
 
 fn contents(function: &Function, placed: &library::Placed) -> Option<ContentsNumbers> {
-    let mut bytes = [library::ConfigByte::default(); 32];
+    let mut bytes = [library::ConfigByte::default(); CONFIG_BYTES];
     for (to, from) in bytes.get_mut(..function.config_bytes.len())?.iter_mut().zip(&function.config_bytes) {
         let offset = library::ConfigOffset(from.offset.into());
         *to = library::ConfigByte { offset, value: from.value, mask: from.mask };
@@ -39,8 +39,8 @@ fn contents(function: &Function, placed: &library::Placed) -> Option<ContentsNum
         line: function.intx.map_or(0, |intx| intx.line),
         bytes,
         byte_count: function.config_bytes.len(),
-        bodies: from_0x40(spread(placed, &function.capabilities, |it| &it.body)),
-        masks: from_0x40(spread(placed, &function.capabilities, |it| &it.mask)),
+        bodies: behind_the_header(spread(placed, &function.capabilities, |it| &it.body)),
+        masks: behind_the_header(spread(placed, &function.capabilities, |it| &it.mask)),
     })
 }
 
@@ -58,11 +58,10 @@ fn bars(bars: &[Bar]) -> Option<Bars> {
     Some(out)
 }
 
-/// The boundary says 32 where all are good.
 pub fn first_bad_byte(function: &Function) -> Option<Option<usize>> {
     let placed = placed(&function.capabilities)?;
-    let index = library::config_bytes(contents(function, &placed)?, placed)?;
-    Some((index != 32).then_some(index))
+    let out = library::config_bytes(contents(function, &placed)?, placed)?;
+    Some(if super::passes(out.refusal, 9)? { None } else { Some(out.index) })
 }
 
 pub fn power_on(function: &Function) -> Option<Image> {
@@ -127,7 +126,7 @@ fn write(state: &mut FunctionState, offset: u16, width: u8, value: u64, accept: 
 }
 
 fn end(state: FunctionState) -> Option<End> {
-    let mut shown = [0; 256];
+    let mut shown = [0; SPACE];
     for (offset, byte) in shown.iter_mut().enumerate() {
         if let Answer::Value(value) = read(state, offset as u16, 1)? {
             *byte = u8::try_from(value).ok()?;

@@ -11,13 +11,18 @@ use rules::*;
 
 pub struct Ours;
 
+/// 0 passes, the rule's own refusal does not; another number is no answer, and so a difference.
+fn passes(number: u8, refusal: u8) -> Asked<bool> {
+    (number == 0 || number == refusal).then_some(number == 0)
+}
+
 impl Rules for Ours {
     fn check(&mut self, offset: u32, width: u32) -> Asked<bool> {
-        library::check(offset as usize, width as usize)
+        passes(library::check(offset as usize, width as usize)?, 18)
     }
 
     fn size_ok(&mut self, size: u64) -> Asked<bool> {
-        library::size_ok(size)
+        passes(library::size(size)?, 7)
     }
 
     fn size_mask(&mut self, size: u64) -> Asked<u32> {
@@ -33,7 +38,7 @@ impl Rules for Ours {
     }
 
     fn body_ok(&mut self, length: u32) -> Asked<bool> {
-        library::body_ok(length as usize)
+        passes(library::body(length as usize)?, 10)
     }
 
     fn first_bad_effect(&mut self, mask: &[u8], effects: &[Effect]) -> Asked<Option<usize>> {
@@ -74,7 +79,7 @@ impl Rules for Ours {
         function::story(function, revision, ops)
     }
 
-    /// The boundary has no bus yet.
+    /// The library has no bus yet.
     fn bus(&mut self, _: Aperture, _: &[Card], _: &[BusOp]) -> Asked<Story> {
         None
     }

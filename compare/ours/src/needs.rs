@@ -1,35 +1,35 @@
-//! What each rule asks of the boundary.
+//! What each rule asks of the library.
 
 use library::have::*;
 
 /// The first function that a rule needs and the library does not have; none if it can be asked.
 pub fn lacks(rule: &str) -> Option<&'static str> {
-    let layout = ("vg_layout", VG_LAYOUT);
-    let power_on = ("vg_power_on", VG_POWER_ON);
-    let snapshot = ("vg_snapshot", VG_SNAPSHOT);
+    let layout = ("harness_layout", HARNESS_LAYOUT);
+    let power_on = ("harness_power_on", HARNESS_POWER_ON);
+    let snapshot = ("harness_snapshot", HARNESS_SNAPSHOT);
     let needs = match rule {
-        "check" => vec![("vg_check", VG_CHECK)],
-        "size_ok" => vec![("vg_size_ok", VG_SIZE_OK)],
-        "size_mask" => vec![("vg_size_mask", VG_SIZE_MASK)],
-        "shown" => vec![("vg_shown", VG_SHOWN)],
-        "bar_write" => vec![("vg_bar_asks", VG_BAR_ASKS)],
-        "body_ok" => vec![("vg_body_ok", VG_BODY_OK)],
-        "first_bad_effect" => vec![("vg_effect_ok", VG_EFFECT_OK)],
+        "check" => vec![("harness_check", HARNESS_CHECK)],
+        "size_ok" => vec![("harness_size", HARNESS_SIZE)],
+        "size_mask" => vec![("harness_size_mask", HARNESS_SIZE_MASK)],
+        "shown" => vec![("harness_shown", HARNESS_SHOWN)],
+        "bar_write" => vec![("harness_bar_asks", HARNESS_BAR_ASKS)],
+        "body_ok" => vec![("harness_body", HARNESS_BODY)],
+        "first_bad_effect" => vec![("harness_effect", HARNESS_EFFECT)],
         "layout" => vec![layout],
-        "effect_for" => vec![layout, power_on, ("vg_touch", VG_TOUCH), snapshot],
-        "modes" => vec![layout, ("vg_mode", VG_MODE)],
-        "view" => vec![layout, snapshot],
-        "place" => vec![("vg_place", VG_PLACE)],
-        "first_bad_byte" => vec![layout, ("vg_config_bytes", VG_CONFIG_BYTES)],
+        "effect_for" => vec![layout, power_on, ("harness_touch", HARNESS_TOUCH), snapshot],
+        "modes" => vec![layout, ("harness_mode", HARNESS_MODE)],
+        "view" => vec![layout, ("harness_view", HARNESS_VIEW), snapshot],
+        "place" => vec![("harness_place", HARNESS_PLACE)],
+        "first_bad_byte" => vec![layout, ("harness_config_bytes", HARNESS_CONFIG_BYTES)],
         "power_on" => vec![layout, power_on],
         "function" => vec![
             layout,
             power_on,
-            ("vg_start", VG_START),
-            ("vg_read", VG_READ),
-            ("vg_write", VG_WRITE),
-            ("vg_finish", VG_FINISH),
-            ("vg_reset", VG_RESET),
+            ("harness_start", HARNESS_START),
+            ("harness_read", HARNESS_READ),
+            ("harness_write", HARNESS_WRITE),
+            ("harness_finish", HARNESS_FINISH),
+            ("harness_reset", HARNESS_RESET),
         ],
         _ => vec![("bus in the library", false)],
     };

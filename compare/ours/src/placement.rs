@@ -1,6 +1,6 @@
-//! Wishes as the boundary's arrays of 48.
+//! Wishes as the library's arrays.
 
-use library::PlaceNumbers;
+use library::{FUNCTIONS, KEYS, PlaceNumbers, SLOTS};
 use rules::{Aperture, PlaceRefusal, Request, Wish};
 
 /// The devices in ascending order, each once.
@@ -14,7 +14,8 @@ fn devices(wishes: &[Wish]) -> Vec<u8> {
 /// The place of a wish in the arrays.
 fn key(devices: &[u8], wish: &Wish) -> Option<usize> {
     let function = devices.binary_search(&wish.device).ok()?;
-    (function < 8 && wish.slot < 6).then(|| function * 6 + usize::from(wish.slot))
+    let slot = usize::from(wish.slot);
+    (function < FUNCTIONS && slot < SLOTS).then_some(function * SLOTS + slot)
 }
 
 pub fn place(aperture: Aperture, wishes: &[Wish]) -> Option<Result<Vec<u64>, PlaceRefusal>> {
@@ -23,10 +24,10 @@ pub fn place(aperture: Aperture, wishes: &[Wish]) -> Option<Result<Vec<u64>, Pla
         start: aperture.start,
         end: aperture.end,
         count: devices.len(),
-        devices: [0; 8],
-        sizes: [0; 48],
-        fixed: [false; 48],
-        addresses: [0; 48],
+        devices: [0; FUNCTIONS],
+        sizes: [0; KEYS],
+        fixed: [false; KEYS],
+        addresses: [0; KEYS],
     };
     request.devices.get_mut(..devices.len())?.copy_from_slice(&devices);
     let keys: Vec<usize> = wishes.iter().map(|wish| key(&devices, wish)).collect::<Option<_>>()?;

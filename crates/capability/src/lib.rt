@@ -48,5 +48,6 @@ pub use placed::PlacedEffect;
 pub use snapshot::Snapshot;
 pub use snapshot::snapshot_of;
 pub use view::View;
+pub use view::has_view;
 pub use view::shown_or;
 pub use view::view_of;

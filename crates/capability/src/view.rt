@@ -14,7 +14,7 @@ pub struct View<'a> {
 }
 
 // Whether there is a view. It takes what `body_part` takes, so that one proof passes all on to both.
-fn has_view<'a>(
+pub fn has_view<'a>(
     placed: Placed,
     index: usize,
     live: &'a [u8],

@@ -1,7 +1,0 @@
--- What crosses the boundary, as numbers.
-pub mod Scalar
-pub mod Effects
-pub mod Function
-pub mod Contents
-pub mod Lists
-pub mod Places

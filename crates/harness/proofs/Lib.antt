@@ -1,0 +1,1 @@
+-- The functions that the comparison links: each passes its question on and tells the answer in numbers.
