@@ -1,0 +1,35 @@
+// The declaration file: its fields, what they declare, and its refusals.
+mod answer;
+mod finished;
+mod frame;
+mod reader;
+mod reading;
+mod said;
+mod so_far;
+mod tag;
+mod take;
+mod take_bus;
+mod take_capability;
+mod take_function;
+mod whole;
+
+pub use answer::Declaration;
+pub use answer::DeclarationAnswer;
+pub use answer::Declared;
+pub use answer::Place;
+pub use answer::read_declaration;
+pub use finished::Finished;
+pub use frame::Frame;
+pub use frame::field_body;
+pub use frame::frame_at;
+pub use frame::more_at;
+pub use frame::next_at;
+pub use reader::Reader;
+pub use reading::Reading;
+pub use reading::read_fields;
+pub use said::Said;
+pub use said::say;
+pub use so_far::SoFar;
+pub use take::Taken;
+pub use take::take_field;
+pub use whole::Fault;
