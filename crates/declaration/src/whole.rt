@@ -38,12 +38,11 @@ pub(crate) fn fault_of(function: Function) -> Fault
     let capabilities = function.capabilities;
     let laid = layout_capabilities(CONFIG_SPACE_SIZE, capabilities);
     let answer = laid.answer;
+    let placed = laid.placed;
+    let contents = function.contents;
+    let bytes = byte_fault(check_config_bytes(CONFIG_SPACE_SIZE, contents, placed));
     match answer {
-        LayoutAnswer::Placed => {
-            let placed = laid.placed;
-            let contents = function.contents;
-            byte_fault(check_config_bytes(CONFIG_SPACE_SIZE, contents, placed))
-        }
+        LayoutAnswer::Placed => bytes,
         LayoutAnswer::Repeated(index) => Fault {
             number: refusal::REPEATED_EFFECT,
             index,
