@@ -16,6 +16,7 @@ use Rattle.declaration.specs.declared.finished.Finished.{Finished}
 use Rattle.declaration.specs.declared.reading.Reading.{Reading}
 use Rattle.declaration.specs.declared.answer.Place.{Place}
 use Rattle.declaration.specs.declared.answer.Place.the-variants as place
+use Rattle.declaration.specs.declared.answer.DeclarationAnswer.{DeclarationAnswer}
 use Rattle.declaration.specs.declared.answer.DeclarationAnswer.the-variants as answer
 use Rattle.declaration.specs.declared.answer.Declaration.{Declaration}
 use Rattle.declaration.specs.declared.answer.Declared.{Declared}
@@ -51,3 +52,8 @@ declaredFrom end r =
 
 unfoldable pub declaredBy : Limits → List ℕ → Declared
 declaredBy l file = declaredFrom (length file) (fieldsOf l file)
+
+-- document 01's number for each answer
+abbrev pub declarationNumber : DeclarationAnswer → ℕ
+declarationNumber answer.Accepted = accepted
+declarationNumber (answer.Refused number p) = number

@@ -1,7 +1,7 @@
 // The answer to a file: the declaration, or a refusal with number and place.
 ghost use mathlib.Core.Path.{_≡_};
 ghost use Rattle.address.specs.Limits.{limits};
-ghost use Rattle.declaration.specs.Answer.{noDeclaration, refusedWith, checkedWhole, declaredFrom, declaredBy};
+ghost use Rattle.declaration.specs.Answer.{noDeclaration, refusedWith, checkedWhole, declaredFrom, declaredBy, declarationNumber};
 use crate::finished::Finished;
 use crate::reading::Reading;
 use crate::reading::read_fields;
@@ -34,6 +34,18 @@ pub struct Declaration {
 pub struct Declared {
     pub answer: DeclarationAnswer,
     pub declaration: Declaration,
+}
+
+impl DeclarationAnswer {
+    // Document 01's number for the answer.
+    pub fn number(self) -> u8
+        ensures { λ r. ⌜ r ≡ declarationNumber self ⌝ }
+    {
+        match self {
+            DeclarationAnswer::Accepted => refusal::ACCEPTED,
+            DeclarationAnswer::Refused { number, place: _ } => number,
+        }
+    }
 }
 
 impl Declaration {

@@ -5,3 +5,4 @@ pub mod Function
 pub mod Contents
 pub mod Lists
 pub mod Places
+pub mod File
