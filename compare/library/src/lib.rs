@@ -54,6 +54,12 @@ unsafe extern "C" {
         power_length: usize,
     ) -> bool;
     fn harness_snapshot(placed: Placed, image: *const u8, length: usize, index: usize) -> Snapshot;
+    fn harness_file(file: *const u8, length: usize) -> FileOut;
+}
+
+pub fn file(file: &[u8]) -> Option<FileOut> {
+    // SAFETY: pointer and length are those of one slice, lent for the call.
+    have::HARNESS_FILE.then(|| unsafe { harness_file(file.as_ptr(), file.len()) })
 }
 
 pub fn effect(declared: DeclaredNumbers, mask: &[u8], effect: PlacedEffect) -> Option<u8> {

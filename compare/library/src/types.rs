@@ -231,6 +231,17 @@ pub struct PlacedOut {
     pub addresses: [u64; KEYS],
 }
 
+#[repr(C)]
+#[derive(Clone, Copy, Debug)]
+pub struct FileOut {
+    pub refusal: u8,
+    pub in_file: bool,
+    pub offset: usize,
+    pub device: u8,
+    pub index: usize,
+    pub count: usize,
+}
+
 // Sizes by the rules of C, worked out by hand: a field lost or of another width shows here.
 const _: () = assert!(size_of::<BarState>() == 40);
 const _: () = assert!(size_of::<Placed>() == 304);
@@ -244,3 +255,4 @@ const _: () = assert!(size_of::<ReadOut>() == 280);
 const _: () = assert!(size_of::<WriteOut>() == 1608);
 const _: () = assert!(size_of::<PlaceNumbers>() == 848);
 const _: () = assert!(size_of::<PlacedOut>() == 392);
+const _: () = assert!(size_of::<FileOut>() == 40);
