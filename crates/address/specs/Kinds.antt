@@ -1,4 +1,4 @@
--- Two kinds of number that cannot be mixed: a BAR slot and a config offset. Each is made by a checked constructor only.
+-- Two kinds of number that cannot be mixed: a BAR slot and a config offset. Each is made by a constructor that checks it, or of a number that needs no check: 0, and for an offset any byte.
 use Prim.Native.Nat.{ℕ, _+_, _*_, _%_}
 use mathlib.Core.Bool.{cond}
 use lib.Dec.{ltb}

@@ -8,6 +8,10 @@ configSpaceSize = 0x100
 abbrev pub vendorId : ℕ
 vendorId = 0x00
 
+-- the vendor that an absent function reads as
+abbrev pub absentVendorId : ℕ
+absentVendorId = 0xffff
+
 abbrev pub deviceId : ℕ
 deviceId = 0x02
 

@@ -14,7 +14,7 @@ use Rattle.bar.specs.declared.memory_bar.MemoryBar.{MemoryBar}
 use Rattle.bar.specs.declared.memory_bar.BarAnswer.{BarAnswer}
 use Rattle.bar.specs.declared.memory_bar.BarAnswer.the-variants as barAnswer
 
--- 2 ^ k for some k of a 64-bit number
+-- 2 ^ k for some k below 64
 unfoldable pub powerOfTwo : ℕ → Bool
 powerOfTwo n = anyBelow (λ k. eqb n (2 ^ k)) 64
 
@@ -47,6 +47,6 @@ abbrev pub barNumber : BarAnswer → ℕ
 barNumber (barAnswer.Good b) = accepted
 barNumber barAnswer.Bad = badSize
 
--- no BAR: what stands past the last one of a list
+-- no BAR: what stands past the last one of a list, and in an empty slot
 abbrev pub noBar : MemoryBar
 noBar = memoryBar (slot 0) 0 request.Auto

@@ -32,10 +32,13 @@ liesIn a r = leb (a .start) (r .start) && leb (endOf r) (a .end)
 unfoldable pub meets : Range → Range → Bool
 meets r s = overlap (r .start) (r .size) (s .start) (s .size)
 
--- refusal 8: not start < end, or end above the most
+-- refusal 8 is given unless start < end, and end is not above the most
+abbrev pub apertureOk : ℕ → ℕ → ℕ → Bool
+apertureOk most start end = ltb start end && leb end most
+
 unfoldable pub apertureOf : ℕ → ℕ → ℕ → ApertureAnswer
 apertureOf most start end =
-    cond (ltb start end && leb end most) (apertureAnswer.Good (record { start = start; end = end })) apertureAnswer.Bad
+    cond (apertureOk most start end) (apertureAnswer.Good (record { start = start; end = end })) apertureAnswer.Bad
 
 -- document 01's number for each answer
 abbrev pub apertureNumber : ApertureAnswer → ℕ

@@ -1,4 +1,4 @@
--- The five reasons of refusal 11 in words: what can be wrong with the w bytes from o on of the latest capability. The laws of proofs/Faults.antt show that `effectBad` is true exactly for one of them.
+-- The five reasons of refusal 11 in words: what can be wrong with the w bytes from o on of the latest capability. The laws of proofs/Faults.antt show that `effectBad` is true exactly if one of them holds.
 use Prim.Native.Nat.{ℕ, _+_, _<_}
 use mathlib.Core.Bool.{true}
 use mathlib.Core.List.{List}

@@ -27,7 +27,7 @@ use Rattle.config.specs.declared.read_step.ReadAnswer.the-variants as readAnswe
 use Rattle.placement.specs.Answer.{placementOf, placementNumber}
 use Rattle.placement.specs.Examples.{p9Aperture, oneAutomatic}
 use Rattle.placement.specs.declared.declared_bars.DeclaredBars.{DeclaredBars}
-use Rattle.cases.specs.Settings.{declare, effect, withEffect, plain, committedAt}
+use Rattle.cases.specs.Settings.{declare, p8Effect, p8Placed, plain, committedAt}
 
 -- what document 01 asks
 pub data Question : Type 0 where
@@ -71,7 +71,7 @@ answer (check o w) = refusal-is (accessNumber (accessOf configSpaceSize o w))
 answer (bodies ns) = layoutReply (layoutOf configSpaceSize (declare noneDeclared ns) .answer)
 answer (starts ns) = numbers-are (map (λ (p : PlacedCapability). p .offset .0) (take (length ns) (layoutOf configSpaceSize (declare noneDeclared ns) .placed .capabilities)))
 answer (body n) = refusal-is (capabilityAnswerNumber (capabilityOf 9 n))
-answer (effect-at o w) = touchReply (touchOf withEffect o w false)
+answer (effect-at o w) = touchReply (touchOf p8Placed o w false)
 answer (written o w v) = reads (readOf (writeOf plain o w v .state) o w .answer)
 answer (place aperture bars) = refusal-is (placementNumber (placementOf aperture bars .answer))
 
@@ -109,7 +109,7 @@ cases =
     (bodies (191 ∷ []) gives refusal-at 13 0) ∷
     (body 254 gives refusal-is 10) ∷
     -- P8 Effect offset 3, length 2 at 0x40: byte 0x43 matches; word 0x42 and dword 0x44 give 19.
-    (effect-at 0x43 1 gives touches (touch.Effect 9 effect 3)) ∷
+    (effect-at 0x43 1 gives touches (touch.Effect 9 p8Effect 3)) ∷
     (effect-at 0x42 2 gives refusal-is 19) ∷
     (effect-at 0x44 4 gives refusal-is 19) ∷
     -- P9 Aperture 0x80000010 to 0x80001010, automatic 0x1000: 17.

@@ -31,12 +31,12 @@ declare d [] = d
 declare d (n ∷ ns) = declare (addCapabilityOf limits d (capability 9 n) .state) ns
 
 -- an effect at offset 3, of length 2, for both directions, of the capability at 0x40
-abbrev pub effect : PlacedEffect
-effect = record { id = 7; capability = 0; offset = 3; length = 2; access = accessBoth }
+abbrev pub p8Effect : PlacedEffect
+p8Effect = record { id = 7; capability = 0; offset = 3; length = 2; access = accessBoth }
 
-abbrev pub withEffect : Placed
-withEffect =
-    record { capabilities = padded capabilityRoom noPlacedCapability (record { id = 9; offset = offset 0x40; length = 8 } ∷ []); count = 1; effects = padded effectRoom noPlacedEffect (effect ∷ []); «effect_count» = 1 }
+abbrev pub p8Placed : Placed
+p8Placed =
+    record { capabilities = padded capabilityRoom noPlacedCapability (record { id = 9; offset = offset 0x40; length = 8 } ∷ []); count = 1; effects = padded effectRoom noPlacedEffect (p8Effect ∷ []); «effect_count» = 1 }
 
 -- a function with an identity and nothing else, at power-on
 abbrev pub contents : Contents

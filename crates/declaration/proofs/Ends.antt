@@ -13,14 +13,14 @@ use Rattle.word.proofs.Tests.{true-or-false, same-or-not, below-or-not, both, n
 use Rattle.address.specs.Limits.{Limits}
 use Rattle.declaration.specs.Check.{firstFailing}
 use Rattle.declaration.specs.Exactly.{FirstFails, NoneFails, allChecks, nowAfter}
-use Rattle.declaration.specs.Frame.{nextAt}
+use Rattle.declaration.specs.Frame.{fieldEnd}
 use Rattle.declaration.specs.Reading.{stoppedWith, goneOn, goes, readField, readFields, fieldsOf}
 use Rattle.declaration.specs.declared.reading.Reading.{Reading}
 use Rattle.declaration.proofs.Checks.{fails-first, fails-none, first-numbered}
 use Rattle.declaration.proofs.Steps.{step-refused, step-taken, step-none}
 
 -- what a step does: it stops at the first check that fails, or goes on
-pub by-step : (l : Limits) (file : List ℕ) (r : Reading) (P : Reading → Type 0) → (goes file r ≡ false → P r) → ((n : ℕ) → goes file r ≡ true → FirstFails (allChecks l file (r .at) (r .now)) n → P (stoppedWith r n)) → (goes file r ≡ true → NoneFails (allChecks l file (r .at) (r .now)) → P (goneOn r (nextAt file (r .at)) (nowAfter file (r .at) (r .now)))) → P (readField l file r)
+pub by-step : (l : Limits) (file : List ℕ) (r : Reading) (P : Reading → Type 0) → (goes file r ≡ false → P r) → ((n : ℕ) → goes file r ≡ true → FirstFails (allChecks l file (r .at) (r .now)) n → P (stoppedWith r n)) → (goes file r ≡ true → NoneFails (allChecks l file (r .at) (r .now)) → P (goneOn r (fieldEnd file (r .at)) (nowAfter file (r .at) (r .now)))) → P (readField l file r)
 by-step l file r P stays stops takes =
     let cs = allChecks l file (r .at) (r .now) in
     ⊎-elim

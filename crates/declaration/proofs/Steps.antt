@@ -12,7 +12,7 @@ use Rattle.word.proofs.Tests.{same-or-not}
 use Rattle.address.specs.Limits.{Limits}
 use Rattle.declaration.specs.Check.{_when_, firstFailing}
 use Rattle.declaration.specs.Exactly.{FirstFails, NoneFails, saidAt, allChecks, nowAfter}
-use Rattle.declaration.specs.Frame.{fieldHeader, tagAt, lengthAt, bodyAt, nextAt, framingChecks, frameOf}
+use Rattle.declaration.specs.Frame.{fieldHeader, tagAt, lengthAt, bodyAt, fieldEnd, framingChecks, frameOf}
 use Rattle.declaration.specs.Reading.{stoppedWith, goneOn, afterFrame, goes, readField}
 use Rattle.declaration.specs.Row.{isLongBody, ruleChecks}
 use Rattle.declaration.specs.Said.{saidOf}
@@ -32,7 +32,7 @@ said-short tag body h =
 
 module _ (file : List ℕ) (at : ℕ) (none : NoneFails (framingChecks file at)) where
   -- where no check of framing fails the body is there
-  pub field-inside : nextAt file at ≤ length file
+  pub field-inside : fieldEnd file at ≤ length file
   field-inside = ltb-false (length file) (at + fieldHeader + lengthAt file at) (none 3 (omega arith))
 
   pub body-length : length (bodyAt file at) ≡ lengthAt file at
@@ -48,7 +48,7 @@ framing-passes l file at s none k h = rw (← List·getD-append (framingChecks f
 module _ (l : Limits) (file : List ℕ) (r : Reading) where
   -- the answer of framing and taking to a number
   abbrev onwards : Reading
-  onwards = goneOn r (nextAt file (r .at)) (nowAfter file (r .at) (r .now))
+  onwards = goneOn r (fieldEnd file (r .at)) (nowAfter file (r .at) (r .now))
 
   -- framing refuses
   framing-stops : (n : ℕ) → (n ≡ accepted → ⊥) → firstFailing (framingChecks file (r .at)) ≡ n → afterFrame l file r (frameOf file (r .at)) ≡ stoppedWith r n

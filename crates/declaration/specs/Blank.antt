@@ -17,11 +17,12 @@ use Rattle.config.specs.declared.function.Function.{Function}
 use Rattle.config.specs.Space.{bodySpace}
 use Rattle.declaration.specs.declared.so_far.SoFar.{SoFar}
 
--- a function with a device and an identity, and nothing else declared of it
+-- the contents of a function of which only the identity is declared
 unfoldable pub emptyContents : Identity → Contents
 emptyContents identity =
     record { identity = identity; intx = intx.Absent; bytes = replicate configByteRoom noConfigByte; «byte_count» = 0; bodies = replicate bodySpace 0; masks = replicate bodySpace 0 }
 
+-- a function with a device and an identity, and nothing else declared of it
 unfoldable pub emptyFunction : ℕ → Identity → Function
 emptyFunction device identity = record { device = device; contents = emptyContents identity; bars = replicate barCount noBar; capabilities = noneDeclared }
 

@@ -18,7 +18,7 @@ use Rattle.declaration.specs.Answer.{acceptedWith, refusedWith}
 use Rattle.declaration.specs.Blank.{nothingSoFar}
 use Rattle.declaration.specs.Check.{Check, _when_}
 use Rattle.declaration.specs.Finished.{countIn, functionAt, noneFinished, finishedSoFar, finishedAfter}
-use Rattle.declaration.specs.Frame.{tagAt, bodyAt, nextAt, framingChecks}
+use Rattle.declaration.specs.Frame.{tagAt, bodyAt, fieldEnd, framingChecks}
 use Rattle.declaration.specs.Row.{ruleChecks}
 use Rattle.declaration.specs.Said.{saidOf}
 use Rattle.declaration.specs.Take.{withField}
@@ -66,7 +66,7 @@ nowAfter file at s = withField s (saidAt file at) (bodyAt file at)
 -- the fields before a position are accepted, one after the other; they declare s, and all but the latest function are in f
 pub data Reached (l : Limits) (file : List ℕ) : ℕ → SoFar → Finished → Type 0 where
   start : Reached l file 0 nothingSoFar noneFinished
-  field : (at : ℕ) (s : SoFar) (f : Finished) → Reached l file at s f → at < length file → NoneFails (allChecks l file at s) → Reached l file (nextAt file at) (nowAfter file at s) (finishedAfter s (nowAfter file at s) f)
+  field : (at : ℕ) (s : SoFar) (f : Finished) → Reached l file at s f → at < length file → NoneFails (allChecks l file at s) → Reached l file (fieldEnd file at) (nowAfter file at s) (finishedAfter s (nowAfter file at s) f)
 
 -- a row of the table at a field: its condition holds there, and none of the n checks before it fails
 pub record RowAt (l : Limits) (file : List ℕ) (at n : ℕ) (row : SoFar → Bool) : Type 0 where

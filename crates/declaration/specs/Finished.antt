@@ -30,7 +30,7 @@ placeIn f device = firstBelow (λ k. ltb device (functionAt f k .device)) (f .co
 unfoldable pub noneFinished : Finished
 noneFinished = record { functions = replicate functionRoom noFunction; count = 0 }
 
--- one more function; there is no room for more than the limit
+-- one more function, where there is room
 unfoldable pub finishedWith : Finished → Function → Finished
 finishedWith f x = cond (ltb (f .count) functionRoom) (record { functions = opened noFunction (f .functions) (placeIn f (x .device)) x; count = f .count + 1 }) f
 

@@ -50,11 +50,16 @@ framingChecks file at =
 abbrev pub bodyAt : List ℕ → ℕ → List ℕ
 bodyAt file at = take (lengthAt file at) (drop (at + fieldHeader) file)
 
--- where the field after it starts
-abbrev pub nextAt : List ℕ → ℕ → ℕ
-nextAt file at = at + fieldHeader + lengthAt file at
+-- where a field ends, and the next one starts
+abbrev pub fieldEnd : List ℕ → ℕ → ℕ
+fieldEnd file at = at + fieldHeader + lengthAt file at
 
 -- the field at a position, or the number of the first check that fails
 unfoldable pub frameOf : List ℕ → ℕ → Frame
 frameOf file at =
     cond (eqb (firstFailing (framingChecks file at)) accepted) (Field (tagAt file at) (at + fieldHeader) (lengthAt file at)) (Refused (firstFailing (framingChecks file at)))
+
+-- document 01's number for each answer
+abbrev pub frameNumber : Frame → ℕ
+frameNumber (Field tag start n) = accepted
+frameNumber (Refused number) = number

@@ -1,4 +1,4 @@
--- The rows of document 01's table that a field can meet once it is framed and formed, each as one question about what is declared so far and what the field says.
+-- The rows of document 01's table that what a field says can meet, each as one question about it and about what is declared so far.
 use Prim.Native.Nat.{ℕ}
 use mathlib.Core.Bool.{Bool, true, false, not, _&&_, _||_}
 use mathlib.Core.List.{List, [], _∷_}
@@ -6,11 +6,11 @@ use lib.Dec.{ltb, leb, eqb}
 use lib.ListN.{getD}
 use Rattle.refusal.specs.Number as number
 use Rattle.word.specs.Search.{anyBelow, allBelow}
-use Rattle.address.specs.Layout.{barCount}
+use Rattle.address.specs.Layout.{barCount, absentVendorId}
 use Rattle.address.specs.Limits.{Limits}
-use Rattle.bar.specs.Range.{fourGib}
+use Rattle.bar.specs.Range.{fourGib, apertureOk}
 use Rattle.bar.specs.Bar.{noBar, sizeOk}
-use Rattle.capability.specs.Size.{bodyMost}
+use Rattle.capability.specs.Size.{tooLong}
 use Rattle.capability.specs.BadEffect.{effectBad}
 use Rattle.config.specs.declared.function.Intx.{Intx}
 use Rattle.config.specs.declared.function.Intx.the-variants.{Absent, Pin}
@@ -56,7 +56,7 @@ isLongBody (NewFunction device identity) = false
 isLongBody (NewIntx pin line) = false
 isLongBody (Bar slot size request) = false
 isLongBody (ConfigByte offset value mask) = false
-isLongBody (Capability id length) = ltb bodyMost length
+isLongBody (Capability id length) = tooLong length
 isLongBody (Effect id offset length access) = false
 isLongBody Bad = false
 
@@ -107,7 +107,7 @@ isBadDeviceOrSlot s Bad = false
 -- 6: "vendor 0xffff"
 abbrev pub isAbsentVendor : Said → Bool
 isAbsentVendor (Aperture start end) = false
-isAbsentVendor (NewFunction device identity) = eqb (identity .vendor) 0xffff
+isAbsentVendor (NewFunction device identity) = eqb (identity .vendor) absentVendorId
 isAbsentVendor (NewIntx pin line) = false
 isAbsentVendor (Bar slot size request) = false
 isAbsentVendor (ConfigByte offset value mask) = false
@@ -128,7 +128,7 @@ isBadSize Bad = false
 
 -- 8: "not start < end, or end above 4 GiB"
 abbrev pub isBadAperture : Said → Bool
-isBadAperture (Aperture start end) = not (ltb start end && leb end fourGib)
+isBadAperture (Aperture start end) = not (apertureOk fourGib start end)
 isBadAperture (NewFunction device identity) = false
 isBadAperture (NewIntx pin line) = false
 isBadAperture (Bar slot size request) = false
@@ -161,6 +161,6 @@ ruleChecks l s f =
     (number.badEffect when isBadEffect s f) ∷
     []
 
--- the checks of a field whatever framing let pass: 10 comes before
+-- for a body that was not framed too: 10 first, then these
 abbrev pub fieldChecks : Limits → SoFar → Said → List Check
 fieldChecks l s f = (number.longBody when isLongBody f) ∷ ruleChecks l s f

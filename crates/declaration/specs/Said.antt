@@ -4,6 +4,7 @@ use mathlib.Core.Bool.{_&&_, cond}
 use mathlib.Core.List.{List}
 use lib.Dec.{leb, eqb}
 use lib.ListN.{length, getD}
+use Rattle.refusal.specs.Number.{accepted, badForm}
 use Rattle.word.specs.Number.{readAt}
 use Rattle.bar.specs.declared.memory_bar.Request.the-variants as request
 use Rattle.capability.specs.Effect.{accessOfNumber}
@@ -81,6 +82,17 @@ saidBy tag body =
     (cond (eqb tag effectTag) (effectSaid body)
     said.Bad))))))
 
--- a body of a length that the table does not allow says nothing
+-- a body of a length that the table does not allow is badly formed
 unfoldable pub saidOf : ℕ → List ℕ → Said
 saidOf tag body = cond (lengthAllowed tag (length body)) (saidBy tag body) said.Bad
+
+-- document 01's number for what is badly formed
+abbrev pub saidNumber : Said → ℕ
+saidNumber (said.Aperture start end) = accepted
+saidNumber (said.Function device identity) = accepted
+saidNumber (said.Intx pin line) = accepted
+saidNumber (said.Bar slot size request) = accepted
+saidNumber (said.ConfigByte offset value mask) = accepted
+saidNumber (said.Capability id length) = accepted
+saidNumber (said.Effect id offset length access) = accepted
+saidNumber said.Bad = badForm

@@ -1,8 +1,8 @@
 -- The fields of a declaration file: which tags there are, and which body lengths each allows (document 01, "Declaration file").
 use Prim.Native.Nat.{ℕ, _/_, _%_}
 use mathlib.Core.Bool.{Bool, false, _&&_, cond}
-use lib.Dec.{ltb, eqb}
-use Rattle.capability.specs.Size.{bodyMost}
+use lib.Dec.{eqb}
+use Rattle.capability.specs.Size.{tooLong}
 
 abbrev pub apertureTag : ℕ
 apertureTag = 1
@@ -37,10 +37,10 @@ lengthAllowed tag n =
     (cond (eqb tag effectTag) (eqb n 5)
     false))))))
 
--- the body of a capability whose field has n bytes: "1+2n: id, body n, write mask n"
+-- the length of a capability's body, by that of its field: an id, and body and write mask of one length
 abbrev pub capabilityBody : ℕ → ℕ
-capabilityBody n = n / 2
+capabilityBody length = length / 2
 
 -- refusal 10: "capability body above 253 bytes (length above 507)"
 unfoldable pub bodyLong : ℕ → ℕ → Bool
-bodyLong tag n = eqb tag capabilityTag && ltb bodyMost (capabilityBody n)
+bodyLong tag n = eqb tag capabilityTag && tooLong (capabilityBody n)

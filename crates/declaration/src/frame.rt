@@ -1,6 +1,6 @@
 // Framing: from a position in the file to a field's tag and body.
 ghost use mathlib.Core.Path.{_≡_};
-ghost use Rattle.declaration.specs.Frame.{frameOf};
+ghost use Rattle.declaration.specs.Frame.{frameOf, frameNumber};
 ghost use Rattle.declaration.specs.Reader.{moreAt, fieldBody, nextFrom};
 use crate::tag::body_long;
 use crate::tag::length_allowed;
@@ -15,6 +15,22 @@ pub enum Frame {
         length: usize,
     },
     Refused(u8),
+}
+
+impl Frame {
+    // Document 01's number for the answer.
+    pub fn number(self) -> u8
+        ensures { λ r. ⌜ r ≡ frameNumber self ⌝ }
+    {
+        match self {
+            Frame::Field {
+                tag: _,
+                start: _,
+                length: _,
+            } => refusal::ACCEPTED,
+            Frame::Refused(number) => number,
+        }
+    }
 }
 
 // The field at a position of the file.

@@ -1,7 +1,7 @@
 // Form: what a field's body says.
 ghost use mathlib.Core.Path.{_≡_};
 ghost use Rattle.word.specs.Number.{readAt};
-ghost use Rattle.declaration.specs.Said.{apertureSaid, functionSaid, intxSaid, barSaid, configByteSaid, capabilitySaid, effectSaid, saidBy, saidOf};
+ghost use Rattle.declaration.specs.Said.{apertureSaid, functionSaid, intxSaid, barSaid, configByteSaid, capabilitySaid, effectSaid, saidBy, saidOf, saidNumber};
 use crate::tag;
 use bar::Request;
 use capability::AccessAnswer;
@@ -43,6 +43,40 @@ pub enum Said {
         access: EffectAccess,
     },
     Bad,
+}
+
+impl Said {
+    // Document 01's number where the body is badly formed.
+    pub fn number(self) -> u8
+        ensures { λ r. ⌜ r ≡ saidNumber self ⌝ }
+    {
+        match self {
+            Said::Aperture { start: _, end: _ } => refusal::ACCEPTED,
+            Said::Function {
+                device: _,
+                identity: _,
+            } => refusal::ACCEPTED,
+            Said::Intx { pin: _, line: _ } => refusal::ACCEPTED,
+            Said::Bar {
+                slot: _,
+                size: _,
+                request: _,
+            } => refusal::ACCEPTED,
+            Said::ConfigByte {
+                offset: _,
+                value: _,
+                mask: _,
+            } => refusal::ACCEPTED,
+            Said::Capability { id: _, length: _ } => refusal::ACCEPTED,
+            Said::Effect {
+                id: _,
+                offset: _,
+                length: _,
+                access: _,
+            } => refusal::ACCEPTED,
+            Said::Bad => refusal::BAD_FORM,
+        }
+    }
 }
 
 fn word_at(body: &[u8], at: usize) -> u16

@@ -4,6 +4,7 @@ use mathlib.Core.Bool.{Bool, true, false, not, _&&_}
 use mathlib.Core.List.{List}
 use mathlib.Core.Path.{_≡_}
 use lib.ListN.{length, getD}
+use Rattle.refusal.specs.Number.{accepted, noPlace}
 use Rattle.word.specs.Search.{anyBelow, firstOf}
 use Rattle.bar.specs.Range.{range, multiple, liesIn, meets}
 use Rattle.bar.specs.declared.range.Range.{Range}
@@ -35,3 +36,8 @@ leastFit p n = firstOf At Nothing p n
 -- the one answer that is so (proofs/Places.antt shows both)
 unfoldable pub lowestOf : Aperture → ℕ → List Range → Fit
 lowestOf aperture size placed = leastFit (isPlace aperture size placed) (aperture .end + 1)
+
+-- document 01's number for each answer
+abbrev pub fitNumber : Fit → ℕ
+fitNumber (At a) = accepted
+fitNumber Nothing = noPlace

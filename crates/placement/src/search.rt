@@ -1,7 +1,7 @@
 // The search for the lowest free place.
 ghost use mathlib.Core.Path.{_≡_};
 ghost use Rattle.bar.specs.Range.{endOf};
-ghost use Rattle.placement.specs.Place.{Lowest};
+ghost use Rattle.placement.specs.Place.{Lowest, fitNumber};
 ghost use Rattle.placement.specs.Skip.{alignedFrom};
 use crate::conflict::Conflict;
 use crate::conflict::conflict_with;
@@ -14,6 +14,18 @@ const LAST_ADDRESS: u64 = 0xffff_ffff_ffff_ffff;
 pub enum Fit {
     At(u64),
     Nothing,
+}
+
+impl Fit {
+    // Document 01's number for the answer.
+    pub fn number(self) -> u8
+        ensures { λ r. ⌜ r ≡ fitNumber self ⌝ }
+    {
+        match self {
+            Fit::At(_) => refusal::ACCEPTED,
+            Fit::Nothing => refusal::NO_PLACE,
+        }
+    }
 }
 
 // The least multiple of `size` from `from` on.

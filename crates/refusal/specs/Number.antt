@@ -1,4 +1,4 @@
--- Document 01's refusal numbers, under a name each, with the words of its table ("Refusal numbers"). No other definition spells one of them.
+-- Document 01's refusal numbers, under a name each, with the words of its table ("Refusal numbers"). No other definition spells one of them, but for the P cases, which have the document's own numbers.
 use Prim.Native.Nat.{ℕ}
 use mathlib.Core.List.{List, [], _∷_}
 
