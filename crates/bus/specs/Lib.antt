@@ -1,0 +1,3 @@
+-- The bus.
+pub mod Bus
+pub mod Start
