@@ -1,8 +1,6 @@
 -- A bus from the bytes of a file (document 01): the declaration's answer, then placement, then power-on images.
 use Prim.Native.Nat.{ℕ, _+_, _*_}
-use mathlib.Core.Bool.{cond}
-use mathlib.Core.List.{List, map}
-use lib.Dec.{ltb}
+use mathlib.Core.List.{List}
 use lib.ListN.{getD}
 use Rattle.word.specs.Table.{table, filled}
 use Rattle.address.specs.Layout.{configSpaceSize, barCount}
@@ -58,15 +56,17 @@ unfoldable pub functionStart : Function → List ℕ → ℕ → FunctionState
 functionStart f addresses k =
     powerOnState (powerOnOf configSpaceSize (f .contents) (barsPlaced f addresses k) (placedIn f)) (barsPlaced f addresses k) (placedIn f)
 
+-- the devices in order, and nothing past the last
+unfoldable pub devicesOf : Declaration → List ℕ
+devicesOf d = filled functionRoom (d .count) (λ k. declaredFunction d k .device) 0
+
+-- the functions at power-on, and blanks past the last
+unfoldable pub functionsOf : Declaration → List ℕ → List FunctionState
+functionsOf d addresses = filled functionRoom (d .count) (λ k. functionStart (declaredFunction d k) addresses k) noFunctionState
+
 -- the bus of a declaration whose BARs have these addresses
 unfoldable pub busOf : Declaration → List ℕ → Bus
-busOf d addresses =
-    record {
-      aperture = d .aperture;
-      devices = filled functionRoom (d .count) (λ k. declaredFunction d k .device) 0;
-      functions = filled functionRoom (d .count) (λ k. functionStart (declaredFunction d k) addresses k) noFunctionState;
-      count = d .count;
-    }
+busOf d addresses = record { aperture = d .aperture; devices = devicesOf d; functions = functionsOf d addresses; count = d .count }
 
 -- "Refusals 1 to 17 leave a bus with no functions and no aperture."
 abbrev pub refusedStart : ℕ → Place → Started

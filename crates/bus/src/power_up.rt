@@ -4,8 +4,9 @@ ghost use Prim.Native.Nat.{_<_};
 ghost use Rattle.address.specs.Layout.{barCount};
 ghost use Rattle.address.specs.Kinds.{slot};
 ghost use Rattle.address.specs.Limits.{limits, functionRoom};
-ghost use Rattle.bus.specs.Start.{functionBars, declaredBars, barsPlaced, functionStart, busOf, refusedStart, startDeclared, startOf};
+ghost use Rattle.bus.specs.Start.{functionBars, declaredBars, barsPlaced, functionStart, devicesOf, functionsOf, busOf, refusedStart, startDeclared, startOf};
 use crate::state::Bus;
+use crate::state::no_function_state;
 use address::Slot;
 use address::SlotAnswer;
 use address::config_layout::CONFIG_SPACE_SIZE;
@@ -109,23 +110,52 @@ fn function_start(function: Function, addresses: [u64; KEY_COUNT], k: usize) -> 
     FunctionState::new(power_on, bars, placed)
 }
 
+// The devices in order, and nothing past the last.
+fn devices_of(declaration: Declaration) -> [u8; FUNCTION_LIMIT]
+    ensures { λ r. ⌜ r ≡ devicesOf declaration ⌝ }
+{
+    let count = word::at_most(declaration.count, FUNCTION_LIMIT);
+    let mut devices = [0u8; FUNCTION_LIMIT];
+    let mut k = 0;
+    while k < count {
+        let function = declaration.functions[k];
+        devices[k] = function.device;
+        k += 1;
+    }
+    devices
+}
+
+// The functions at power-on, and blanks past the last.
+fn functions_of(
+    declaration: Declaration,
+    addresses: [u64; KEY_COUNT],
+) -> [FunctionState; FUNCTION_LIMIT]
+    ensures { λ r. ⌜ r ≡ functionsOf declaration addresses ⌝ }
+{
+    let count = word::at_most(declaration.count, FUNCTION_LIMIT);
+    let none = no_function_state();
+    let mut functions = [none; FUNCTION_LIMIT];
+    let mut k = 0;
+    while k < count {
+        let function = declaration.functions[k];
+        let state = function_start(function, addresses, k);
+        functions[k] = state;
+        k += 1;
+    }
+    functions
+}
+
 // The bus of a declaration whose BARs have these addresses.
 fn bus_of(declaration: Declaration, addresses: [u64; KEY_COUNT]) -> Bus
     ensures { λ r. ⌜ r ≡ busOf declaration addresses ⌝ }
 {
-    let count = word::at_most(declaration.count, FUNCTION_LIMIT);
-    let mut bus = Bus::none();
-    let mut k = 0;
-    while k < count {
-        let function = declaration.functions[k];
-        bus.devices[k] = function.device;
-        let state = function_start(function, addresses, k);
-        bus.functions[k] = state;
-        k += 1;
+    let aperture = declaration.aperture;
+    Bus {
+        aperture,
+        devices: devices_of(declaration),
+        functions: functions_of(declaration, addresses),
+        count: declaration.count,
     }
-    bus.aperture = declaration.aperture;
-    bus.count = declaration.count;
-    bus
 }
 
 fn refused_start(number: u8, place: Place) -> Started

@@ -27,7 +27,7 @@ fn no_image() -> [u8; CONFIG_SPACE_BYTES]
 }
 
 // What stands past the last function.
-fn no_function_state() -> FunctionState
+pub(crate) fn no_function_state() -> FunctionState
     ensures { λ r. ⌜ r ≡ noFunctionState ⌝ }
 {
     let none = BarState::none();
