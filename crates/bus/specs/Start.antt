@@ -19,6 +19,7 @@ use Rattle.config.specs.declared.state.FunctionState.{FunctionState}
 use Rattle.placement.specs.Answer.{placementOf}
 use Rattle.placement.specs.declared.declared_bars.FunctionBars.{FunctionBars}
 use Rattle.placement.specs.declared.declared_bars.DeclaredBars.{DeclaredBars}
+use Rattle.placement.specs.declared.answer.Placement.{Placement}
 use Rattle.placement.specs.declared.answer.PlacementAnswer.{PlacementAnswer}
 use Rattle.placement.specs.declared.answer.PlacementAnswer.the-variants as placement
 use Rattle.declaration.specs.Blank.{noFunction}
@@ -77,8 +78,12 @@ abbrev pub placedStart : Declaration → List ℕ → PlacementAnswer → Starte
 placedStart d addresses placement.Placed = record { answer = answer.Accepted; bus = busOf d addresses }
 placedStart d addresses (placement.Refused number device s) = refusedStart number (place.Index device s)
 
+-- where placement puts the BARs of a declaration
+abbrev pub placementIn : Declaration → Placement
+placementIn d = placementOf (d .aperture) (declaredBars d)
+
 unfoldable pub startDeclared : Declaration → Started
-startDeclared d = placedStart d (placementOf (d .aperture) (declaredBars d) .addresses) (placementOf (d .aperture) (declaredBars d) .answer)
+startDeclared d = placedStart d (placementIn d .addresses) (placementIn d .answer)
 
 abbrev pub startAnswered : Declaration → DeclarationAnswer → Started
 startAnswered d answer.Accepted = startDeclared d
