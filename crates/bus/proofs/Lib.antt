@@ -2,3 +2,4 @@
 pub mod Fills
 pub mod Outcomes
 pub mod Keyed
+pub mod Powered
