@@ -3,3 +3,4 @@ pub mod Fills
 pub mod Outcomes
 pub mod Keyed
 pub mod Powered
+pub mod Sounds
