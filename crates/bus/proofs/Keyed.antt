@@ -1,12 +1,12 @@
 -- A good function has the BAR of slot s at place s, so placement's keys and the bus's are one.
-use Prim.Native.Nat.{ℕ, _/_, _%_, _<_, _≤_}
-use mathlib.Core.Bool.{true, false}
+use Prim.Native.Nat.{ℕ, _/_, _%_, _<_}
+use mathlib.Core.Bool.{false}
 use mathlib.Core.Logic.{⊎-elim}
-use mathlib.Core.Path.{_≡_, refl, ap, _∙_}
+use mathlib.Core.Path.{_≡_, ap, _∙_}
 use native.Mathlib.Nat.{mod-lt}
 use native.Mathlib.Omega.{arith}
 use borrow.Author.Tests.{eq-eqb, ne-eqb}
-use lib.ListN.{length, getD}
+use lib.ListN.{getD}
 use Rattle.word.proofs.Tables.{length-table, getD-table}
 use Rattle.word.proofs.Tests.{same-or-not}
 use Rattle.address.specs.Kinds.{indexOf}
@@ -16,7 +16,7 @@ use Rattle.address.specs.declared.slot.Slot.{Slot}
 use Rattle.bar.specs.Bar.{noBar}
 use Rattle.bar.specs.declared.memory_bar.MemoryBar.{MemoryBar}
 use Rattle.config.specs.declared.function.Function.{Function}
-use Rattle.placement.specs.Keys.{keyCount, standsAt, slotBar, declaredAt, barsOf}
+use Rattle.placement.specs.Keys.{standsAt, slotBar, barsOf}
 use Rattle.placement.proofs.Answers.{bars-at}
 use Rattle.placement.proofs.Slots.{slot-first, slot-none, key-in}
 use Rattle.declaration.specs.Good.{GoodSlot, empty, used, GoodFunction, Good}

@@ -4,3 +4,6 @@ pub mod Outcomes
 pub mod Keyed
 pub mod Powered
 pub mod Sounds
+pub mod BitNumbers
+pub mod SoundParts
+pub mod SoundRanges

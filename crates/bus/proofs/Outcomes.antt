@@ -1,7 +1,7 @@
 -- What a file starts: by the declaration's answer, and then by placement's.
 use Prim.Native.Nat.{ℕ}
 use mathlib.Core.List.{List}
-use mathlib.Core.Path.{_≡_, refl, sym, _∙_}
+use mathlib.Core.Path.{_≡_, refl}
 use native.Mathlib.Omega.{arith}
 use Rattle.address.specs.Limits.{Limits}
 use Rattle.placement.specs.declared.answer.PlacementAnswer.{PlacementAnswer}
@@ -12,7 +12,6 @@ use Rattle.declaration.specs.declared.answer.DeclarationAnswer.the-variants as 
 use Rattle.declaration.specs.declared.answer.Place.{Place}
 use Rattle.bus.specs.Bus.{emptyBus}
 use Rattle.bus.specs.Start.{placementIn, placedStart, startDeclared, startAnswered, startOf}
-use Rattle.bus.specs.Sound.{startedBus}
 use Rattle.bus.specs.Outcome.{declarationOf, Outcome, accepted, not-declared, not-placed, Accepted}
 use Rattle.bus.specs.declared.power_up.Started.{Started}
 

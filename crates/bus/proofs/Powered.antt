@@ -1,26 +1,23 @@
 -- The bus of a declaration, part by part: its devices, its functions, their BARs, and the range at each key.
 use Prim.Native.Nat.{ℕ, _+_, _*_, _/_, _%_, _<_, _≤_}
-use mathlib.Core.Bool.{false}
-use mathlib.Core.List.{List, map}
+use mathlib.Core.List.{List}
 use mathlib.Core.Logic.{⊎-elim}
 use mathlib.Core.Path.{_≡_, refl, _∙_}
 use native.Mathlib.Nat.{mod-lt}
 use native.Mathlib.Omega.{arith}
 use borrow.Author.Tests.{lt-ltb, le-ltb}
-use lib.ListN.{length, getD, length-map, List·getD-map, List·getD-eq-default}
+use lib.ListN.{length, length-map, List·getD-map, List·getD-eq-default}
 use Rattle.word.proofs.Tables.{length-table, getD-table, filled-length, filled-at}
 use Rattle.word.proofs.Tests.{below-or-not}
 use Rattle.address.specs.Layout.{configSpaceSize, barCount}
 use Rattle.address.specs.Limits.{functionRoom}
 use Rattle.bar.specs.State.{noState, fresh, resetOf}
-use Rattle.bar.specs.Range.{range}
-use Rattle.bar.specs.Bar.{noBar}
 use Rattle.config.specs.State.{barAt}
 use Rattle.config.specs.declared.function.Function.{Function}
 use Rattle.config.specs.declared.state.FunctionState.{FunctionState}
 use Rattle.config.proofs.Images.{image-size, mask-size}
 use Rattle.config.proofs.Ranges.{image-lt, mask-lt}
-use Rattle.placement.specs.Keys.{keyCount, barsOf}
+use Rattle.placement.specs.Keys.{barsOf}
 use Rattle.placement.specs.Order.{rangeAt}
 use Rattle.placement.specs.Place.{noRange}
 use Rattle.declaration.specs.Good.{Bytes, Good}
@@ -109,7 +106,7 @@ module _ (d : Declaration) (g : Good d) (addresses : List ℕ) where
   bus-function k h =
       filled-at functionRoom (λ k. functionStart (declaredFunction d k) addresses k) noFunctionState (d .count) k noFunctionState (omega (arith, g .functions .few)) h
 
-  bus-countOn : countOn (busOf d addresses) ≡ d .count
+  pub bus-countOn : countOn (busOf d addresses) ≡ d .count
   bus-countOn = rw bus-count (omega (arith, g .functions .few))
 
   -- the range at a key is the one that placement gave it

@@ -1,5 +1,5 @@
 -- `start_declared` goes by what placement answers.
-use mathlib.Core.Path.{_≡_, sym, ap, _∙_}
+use mathlib.Core.Path.{_≡_, _∙_}
 use Rattle.placement.specs.Answer.{placementOf}
 use Rattle.bus.specs.Start.{declaredBars, startDeclared}
 use borrow.Author.Needs.{needs}
