@@ -7,3 +7,4 @@ pub mod Sounds
 pub mod BitNumbers
 pub mod SoundParts
 pub mod SoundRanges
+pub mod SoundSteps

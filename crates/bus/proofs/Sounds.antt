@@ -48,8 +48,8 @@ module _ (d : Declaration) (g : Good d) (e : placementIn d .answer ≡ placement
         within = λ k. by-key k (λ s. 0 < s .size → liesIn (d .aperture) s ≡ true) (λ h l z. r .within k l z) (λ h z. absurd (omega arith));
         below = λ k. by-key k (λ s. endOf s ≤ fourGib) (λ h l. placement-end (d .aperture) (declaredBars d) e (g .aperture .most) k l) (λ h. omega arith);
         apart = λ j k n. by-key j (λ s. meets s (rangeOn (startedBus d) k) ≡ false)
-          (λ h l. by-key k (λ s. meets (rangeAt (barsOf (declaredBars d)) addresses j) s ≡ false) (λ i m. r .apart j k l m n) (λ i. empty-second _ noRange refl))
-          (λ h. empty-first noRange _ refl);
+            (λ h l. by-key k (λ s. meets (rangeAt (barsOf (declaredBars d)) addresses j) s ≡ false) (λ i m. r .apart j k l m n) (λ i. empty-second _ noRange refl))
+            (λ h. empty-first noRange _ refl);
       }
 
   -- a function as it starts
