@@ -8,3 +8,4 @@ pub mod BitNumbers
 pub mod SoundParts
 pub mod SoundRanges
 pub mod SoundSteps
+pub mod SoundBuses
