@@ -3,11 +3,10 @@ use Prim.Native.Nat.{ℕ, _+_, _*_, _/_, _%_, _<_, _≤_}
 use mathlib.Core.Bool.{true, false}
 use mathlib.Core.List.{List}
 use mathlib.Core.Logic.{⊎-elim}
-use mathlib.Core.Path.{_≡_, refl, sym, _∙_}
-use native.Mathlib.Nat.{mod-lt}
+use mathlib.Core.Path.{_≡_, sym, _∙_}
 use native.Mathlib.Omega.{arith}
 use borrow.Author.Tests.{lt-ltb, le-ltb}
-use lib.ListN.{length, getD, set, length-set}
+use lib.ListN.{length, getD, length-set}
 use lib.Seq.{getD-set-same, getD-set-other}
 use Rattle.word.proofs.Tests.{below-or-not, same-or-not}
 use Rattle.address.specs.Layout.{barCount}
@@ -24,7 +23,7 @@ use Rattle.config.specs.Write.{writeOf, relocatedIn}
 use Rattle.config.specs.declared.state.FunctionState.{FunctionState}
 use Rattle.config.proofs.Kept.{write-same, write-keeps-address, other-slot, reset-bars}
 use Rattle.declaration.specs.declared.answer.Declaration.{Declaration}
-use Rattle.bus.specs.Bus.{noFunctionState, functionAt, barOn, rangeOn, withFunction}
+use Rattle.bus.specs.Bus.{noFunctionState, functionAt, rangeOn, withFunction}
 use Rattle.bus.specs.Sound.{startedFunction, planOn, Clear, SoundFunction, Sound}
 use Rattle.bus.specs.declared.state.Bus.{Bus}
 use Rattle.bus.proofs.SoundParts.{sound-count}
@@ -39,10 +38,10 @@ clear-moved a at to z most c e aligned within free =
       within = λ k h. ⊎-elim (λ (q : k ≡ z). rw q within) (λ (q : k ≡ z → ⊥). rw (e k q) (c .within k (rw (e k q) at h))) (same-or-not k z);
       below = λ k. ⊎-elim (λ (q : k ≡ z). rw q (omega (arith, lies-end a (to z) within))) (λ (q : k ≡ z → ⊥). rw (e k q) (c .below k)) (same-or-not k z);
       apart = λ j k n.
-        ⊎-elim (λ (q : j ≡ z). let o : k ≡ z → ⊥ = λ p. n (q ∙ sym p) in rw (q, e k o) (free k o))
-        (λ (q : j ≡ z → ⊥).
-        ⊎-elim (λ (p : k ≡ z). rw (p, e j q) (meets-sym (at j) (to z) ∙ free j q)) (λ (p : k ≡ z → ⊥). rw (e j q, e k p) (c .apart j k n)) (same-or-not k z))
-        (same-or-not j z);
+          ⊎-elim (λ (q : j ≡ z). let o : k ≡ z → ⊥ = λ p. n (q ∙ sym p) in rw (q, e k o) (free k o))
+          (λ (q : j ≡ z → ⊥).
+          ⊎-elim (λ (p : k ≡ z). rw (p, e j q) (meets-sym (at j) (to z) ∙ free j q)) (λ (p : k ≡ z → ⊥). rw (e j q, e k p) (c .apart j k n)) (same-or-not k z))
+          (same-or-not j z);
     }
 
 module _ (d : Declaration) (b : Bus) (s : Sound d b) where

@@ -1,7 +1,7 @@
 -- A function stays sound through its own steps: a write, the end of a relocation, a reset.
 use Prim.Native.Nat.{ℕ, _<_, _≤_}
 use mathlib.Core.Logic.{⊎-elim}
-use mathlib.Core.Path.{_≡_, refl, sym, _∙_}
+use mathlib.Core.Path.{_≡_, sym, _∙_}
 use lib.ListN.{length, getD, length-set, length-map, List·getD-eq-default}
 use Rattle.word.specs.Bit.{bit}
 use Rattle.word.proofs.Stores.{stored-length, stored-byte}
