@@ -1,0 +1,35 @@
+-- Memory lookup, by the first BAR that holds the access.
+use Prim.Native.Nat.{ℕ, _/_, _<_, _≤_, _+_}
+use mathlib.Core.Bool.{true, false}
+use mathlib.Core.Path.{_≡_}
+use borrow.Author.Tests.{leb-true}
+use lib.Dec.{leb}
+use Rattle.word.specs.Width.{widthOk}
+use Rattle.word.proofs.Tests.{and-left, and-right}
+use Rattle.word.proofs.Searches.{First, first-is, first-none}
+use Rattle.address.specs.Layout.{barCount}
+use Rattle.bar.specs.Range.{endOf}
+use Rattle.placement.specs.Keys.{keyCount}
+use Rattle.bus.specs.Bus.{functionAt, rangeOn}
+use Rattle.bus.specs.Lookup.{mostLookup, decodes, liesWithin, holdsAt, hitAt, lookupOf}
+use Rattle.bus.specs.declared.state.Bus.{Bus}
+use Rattle.bus.specs.declared.memory_lookup.LookupAnswer.the-variants.{Miss, BadWidth}
+
+module _ (b : Bus) (a w : ℕ) where
+  pub lookup-width : widthOk mostLookup w ≡ false → lookupOf b a w ≡ BadWidth
+  unfolding lookupOf
+  lookup-width e = rw e
+
+  pub lookup-hit : (key : ℕ) → widthOk mostLookup w ≡ true → First (holdsAt b a w) keyCount key → lookupOf b a w ≡ hitAt b a key
+  unfolding lookupOf
+  lookup-hit key e f = rw e (first-is (hitAt b a) Miss (holdsAt b a w) keyCount key f)
+
+  pub lookup-miss : widthOk mostLookup w ≡ true → ((k : ℕ) → k < keyCount → holdsAt b a w k ≡ false) → lookupOf b a w ≡ Miss
+  unfolding lookupOf
+  lookup-miss e h = rw e (first-none (hitAt b a) Miss (holdsAt b a w) keyCount h)
+
+  -- an access that is held starts in the range
+  pub holds-from : (key : ℕ) → holdsAt b a w key ≡ true → rangeOn b key .start ≤ a
+  unfolding holdsAt
+  holds-from key e =
+      leb-true (rangeOn b key .start) a (and-left (leb (rangeOn b key .start) a) (leb (a + w) (endOf (rangeOn b key))) (and-right (decodes (functionAt b (key / barCount))) (liesWithin (rangeOn b key) a w) e))

@@ -1,0 +1,72 @@
+-- `settle` goes by the acceptance; the function that changes is the one at the index.
+use mathlib.Core.Path.{_∙_}
+use borrow.Author.Needs.{needs}
+use Rattle.bus.proofs.write_access.settle.Statement.{statement}
+use Rattle.bus.proofs.write_access.settle.Tie as tie
+
+function-at-requires : tie.Need-function-at-requires
+function-at-requires c κs = search needs
+
+accepted-at-requires : tie.Need-accepted-at-requires
+accepted-at-requires c κs = search needs
+
+finish-at-requires : tie.Need-finish-at-requires
+finish-at-requires c κs = search needs
+
+no-body-requires : tie.Need-no-body-requires
+no-body-requires c κs = search needs
+
+with-function-requires : tie.Need-with-function-requires
+with-function-requires c κs = search needs
+
+done-requires : tie.Need-done-requires
+done-requires c κs = search needs
+
+returns : tie.Need-returns
+returns c =
+    let k = c .before .before .before .before in
+    c .done .ensures ∙
+    rw (c .before .with-function .ensures, c .before .before .no-body .ensures, c .before .before .before .finish-at .ensures, k .before .before .function-at .ensures, ← k .before .accepted-at .ensures, k .if1 .taken)
+
+mul-bar : tie.Need-mul-bar
+mul-bar c = search needs
+
+element-copy-out-bar : tie.Need-element-copy-out-bar
+element-copy-out-bar c = search needs
+
+finish-at-requires-2 : tie.Need-finish-at-requires-2
+finish-at-requires-2 c κs = search needs
+
+no-body-requires-2 : tie.Need-no-body-requires-2
+no-body-requires-2 c κs = search needs
+
+with-function-requires-2 : tie.Need-with-function-requires-2
+with-function-requires-2 c κs = search needs
+
+done-requires-2 : tie.Need-done-requires-2
+done-requires-2 c κs = search needs
+
+returns-2 : tie.Need-returns-2
+returns-2 c =
+    let k = c .before .before .before .before .before in
+    c .done2 .ensures ∙
+    rw (c .before .with-function2 .ensures, c .before .before .no-body2 .ensures, c .before .before .before .finish-at2 .ensures, k .before .before .function-at .ensures, ← k .before .accepted-at .ensures, k .if1 .left)
+
+pub settle-spec : {M : Type 1} → statement M
+settle-spec =
+    tie.close
+    (tie.spec
+    function-at-requires
+    accepted-at-requires
+    finish-at-requires
+    no-body-requires
+    with-function-requires
+    done-requires
+    returns
+    mul-bar
+    element-copy-out-bar
+    finish-at-requires-2
+    no-body-requires-2
+    with-function-requires-2
+    done-requires-2
+    returns-2)

@@ -1,0 +1,124 @@
+-- `write_on` says on the bus what the function's step says.
+use mathlib.Core.Path.{_≡_, sym, ap, _∙_}
+use Rattle.config.specs.declared.write_step.WriteDone.{WriteDone}
+use Rattle.bus.specs.Access.{steppedOn, writtenOn}
+use Rattle.bus.proofs.Candidates.{candidate-slot}
+use borrow.Author.Needs.{needs}
+use Rattle.bus.proofs.write_access.write_on.Statement.{statement}
+use Rattle.bus.proofs.write_access.write_on.Tie as tie
+
+-- the definition, on what the step gave
+as-stepped : (c : tie.After-write) → let a = c .before .before .args in let d = c .write .result in writtenOn (a .t1) (a .k) (a .offset) (a .width) (a .value) ≡ steppedOn (a .t1) (a .k) (d .state) (d .reply .body) (d .reply .answer)
+unfolding writtenOn
+as-stepped c = rw (c .write .ensures, c .before .function-at .ensures)
+
+function-at-requires : tie.Need-function-at-requires
+function-at-requires c κs = search needs
+
+write-requires : tie.Need-write-requires
+write-requires c κs = search needs
+
+enum-told : tie.Need-enum-told
+enum-told c = search needs
+
+with-function-requires : tie.Need-with-function-requires
+with-function-requires c κs = search needs
+
+done-requires : tie.Need-done-requires
+done-requires c κs = search needs
+
+enum-known-answer : tie.Need-enum-known-answer
+enum-known-answer c = search needs
+
+with-function-requires-2 : tie.Need-with-function-requires-2
+with-function-requires-2 c κs = search needs
+
+done-requires-2 : tie.Need-done-requires-2
+done-requires-2 c κs = search needs
+
+enum-known-answer-2 : tie.Need-enum-known-answer-2
+enum-known-answer-2 c = search needs
+
+settle-requires : tie.Need-settle-requires
+settle-requires c κs =
+    let w = c .before .before .before .before .before in
+    (search needs, candidate-slot (w .before .function-at .result) _ _ _ _ _ (ap (λ (d : WriteDone). d .reply .answer) (sym (w .write .ensures)) ∙ c .before .answer2 .given .1))
+
+enum-known-answer-3 : tie.Need-enum-known-answer-3
+enum-known-answer-3 c = search needs
+
+done-requires-3 : tie.Need-done-requires-3
+done-requires-3 c κs = search needs
+
+enum-told-2 : tie.Need-enum-told-2
+enum-told-2 c = search needs
+
+done-requires-4 : tie.Need-done-requires-4
+done-requires-4 c κs = search needs
+
+enum-told-3 : tie.Need-enum-told-3
+enum-told-3 c = search needs
+
+done-requires-5 : tie.Need-done-requires-5
+done-requires-5 c κs = search needs
+
+enum-told-4 : tie.Need-enum-told-4
+enum-told-4 c = search needs
+
+element-copy-out-t37 : tie.Need-element-copy-out-t37
+element-copy-out-t37 c = search needs
+
+done-requires-6 : tie.Need-done-requires-6
+done-requires-6 c κs = search needs
+
+returns : tie.Need-returns
+returns c = c .done .ensures ∙ rw (as-stepped (c .before .before .before .before .before .before .before), c .before .before .before .enum-told .given .1, c .before .with-function .ensures)
+
+returns-2 : tie.Need-returns-2
+returns-2 c = c .done2 .ensures ∙ rw (as-stepped (c .before .before .before .before .before .before .before .before), c .before .before .before .before .answer .given .1, c .before .with-function2 .ensures)
+
+returns-3 : tie.Need-returns-3
+returns-3 c = c .settle .ensures ∙ rw (as-stepped (c .before .before .before .before .before .before), c .before .before .answer2 .given .1)
+
+returns-4 : tie.Need-returns-4
+returns-4 c = c .done3 .ensures ∙ rw (as-stepped (c .before .before .before .before .before .before), c .before .before .answer3 .given .1)
+
+returns-5 : tie.Need-returns-5
+returns-5 c = c .done4 .ensures ∙ rw (as-stepped (c .before .before .before .before .before), c .before .enum-told2 .given .1)
+
+returns-6 : tie.Need-returns-6
+returns-6 c = c .done5 .ensures ∙ rw (as-stepped (c .before .before .before .before .before), c .before .enum-told3 .given .1)
+
+returns-7 : tie.Need-returns-7
+returns-7 c = c .done6 .ensures ∙ rw (as-stepped (c .before .before .before .before .before .before), c .before .before .enum-told4 .given .1)
+
+pub write-on-spec : {M : Type 1} → statement M
+write-on-spec =
+    tie.close
+    (tie.spec
+    function-at-requires
+    write-requires
+    enum-told
+    with-function-requires
+    done-requires
+    enum-known-answer
+    with-function-requires-2
+    done-requires-2
+    enum-known-answer-2
+    settle-requires
+    enum-known-answer-3
+    done-requires-3
+    enum-told-2
+    done-requires-4
+    enum-told-3
+    done-requires-5
+    enum-told-4
+    element-copy-out-t37
+    done-requires-6
+    returns
+    returns-2
+    returns-3
+    returns-4
+    returns-5
+    returns-6
+    returns-7)

@@ -1,0 +1,8 @@
+-- The bus: start, dispatch, relocation, lookup, reset.
+pub mod Bus
+pub mod Start
+pub mod Outcome
+pub mod Access
+pub mod Lookup
+pub mod Reset
+pub mod Sound

@@ -1,0 +1,22 @@
+// The bus: start, dispatch, relocation, lookup, reset.
+mod bus_reset;
+mod memory_lookup;
+mod power_up;
+mod ranges;
+mod read_access;
+mod state;
+mod write_access;
+
+pub use bus_reset::BusResetAnswer;
+pub use bus_reset::BusResetDone;
+pub use bus_reset::reset;
+pub use memory_lookup::LookupAnswer;
+pub use memory_lookup::lookup;
+pub use power_up::Started;
+pub use power_up::start;
+pub use read_access::read;
+pub use state::Bus;
+pub use write_access::BusWriteAnswer;
+pub use write_access::BusWriteDone;
+pub use write_access::BusWriteReply;
+pub use write_access::write;
