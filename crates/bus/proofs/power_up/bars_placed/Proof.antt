@@ -72,10 +72,11 @@ made c = rw (c .new .ensures, c .before .size .ensures, c .before .before .slot-
 loop-again : tie.Need-loop-again Inv-loop μ-loop
 loop-again c =
     let l = c .before .before .before .before .before .loop in
-    let a = c .before .before .before .before .before .before .before .args in
-    (omega arith,
-    rw (l .inv .1)
-    (filled-more barCount (λ j. fresh (planAt (a .t1) (a .t2) (a .k) j)) noState (l .i) (c .new .result) (omega arith) (made c)))
+    let a = c .before .before .before .before .before .before .before .args in (
+      omega arith,
+      rw (l .inv .1)
+          (filled-more barCount (λ j. fresh (planAt (a .t1) (a .t2) (a .k) j)) noState (l .i) (c .new .result) (omega arith) (made c)),
+    )
 
 returns : tie.Need-returns Inv-loop μ-loop
 unfolding barsPlaced

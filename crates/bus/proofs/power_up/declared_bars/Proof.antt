@@ -73,10 +73,11 @@ loop-less c = omega arith
 loop-again : tie.Need-loop-again Inv-loop μ-loop
 loop-again c =
     let l = c .before .before .before .loop in
-    let d = c .before .before .before .before .before .before .args .t1 in
-    (omega arith,
-    rw (l .inv .1)
-    (filled-more functionRoom (λ j. functionBars (declaredFunction d j)) (functionBars (declaredFunction d 0)) (l .k) (c .function-bars2 .result) (omega arith) (made c)))
+    let d = c .before .before .before .before .before .before .args .t1 in (
+      omega arith,
+      rw (l .inv .1)
+          (filled-more functionRoom (λ j. functionBars (declaredFunction d j)) (functionBars (declaredFunction d 0)) (l .k) (c .function-bars2 .result) (omega arith) (made c)),
+    )
 
 returns : tie.Need-returns Inv-loop μ-loop
 unfolding declaredBars

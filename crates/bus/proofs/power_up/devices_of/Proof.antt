@@ -52,11 +52,12 @@ loop-again c =
     let l = c .before .before .loop in
     let d = c .before .before .before .before .args .t1 in
     let m : l .k < functionRoom = omega (arith, l .inv .1, c .before .loop-test .taken) in
-    let h : l .k < length (d .functions) = omega (arith, long (c .before .before .before .before)) in
-    (omega arith,
-    l .inv .1,
-    rw (l .inv .2)
-    (filled-more functionRoom (λ j. declaredFunction d j .device) 0 (l .k) _ m (ap (λ (f : Function). f .device) (getD-inside (d .functions) (l .k) _ noFunction h))))
+    let h : l .k < length (d .functions) = omega (arith, long (c .before .before .before .before)) in (
+      omega arith,
+      l .inv .1,
+      rw (l .inv .2)
+          (filled-more functionRoom (λ j. declaredFunction d j .device) 0 (l .k) _ m (ap (λ (f : Function). f .device) (getD-inside (d .functions) (l .k) _ noFunction h))),
+    )
 
 returns : tie.Need-returns Inv-loop μ-loop
 unfolding devicesOf

@@ -65,12 +65,13 @@ loop-again c =
     let a = c .before .before .before .before .before .before .args in
     let d = a .t1 in
     let m : l .k < functionRoom = omega (arith, l .inv .1, c .before .before .loop-test .taken) in
-    let h : l .k < length (d .functions) = omega (arith, long (c .before .before .before .before .before .before)) in
-    (omega arith,
-    l .inv .1,
-    rw (l .inv .2)
-    (filled-more functionRoom (λ j. functionStart (declaredFunction d j) (a .addresses) j) noFunctionState (l .k) (c .function-start .result) m
-    (c .function-start .ensures ∙ ap (λ (f : Function). functionStart f (a .addresses) (l .k)) (getD-inside (d .functions) (l .k) _ noFunction h))))
+    let h : l .k < length (d .functions) = omega (arith, long (c .before .before .before .before .before .before)) in (
+      omega arith,
+      l .inv .1,
+      rw (l .inv .2)
+          (filled-more functionRoom (λ j. functionStart (declaredFunction d j) (a .addresses) j) noFunctionState (l .k) (c .function-start .result) m
+          (c .function-start .ensures ∙ ap (λ (f : Function). functionStart f (a .addresses) (l .k)) (getD-inside (d .functions) (l .k) _ noFunction h))),
+    )
 
 returns : tie.Need-returns Inv-loop μ-loop
 unfolding functionsOf

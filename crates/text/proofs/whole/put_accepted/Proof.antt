@@ -1,6 +1,6 @@
 -- `put_accepted`: the lines of the BARs follow that of the aperture.
-use borrow.Author.Needs.{needs}
 use Rattle.text.specs.Text.{acceptedText}
+use borrow.Author.Needs.{needs}
 use Rattle.text.proofs.whole.put_accepted.Statement.{statement}
 use Rattle.text.proofs.whole.put_accepted.Tie as tie
 

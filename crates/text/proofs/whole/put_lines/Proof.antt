@@ -4,32 +4,27 @@ use mathlib.Core.List.{_++_}
 use mathlib.Core.Path.{_≡_, refl, sym, _∙_}
 use native.Mathlib.Omega.{arith}
 use lib.ListN.{length, take}
+use Rattle.placement.specs.Keys.{keyCount}
 use Rattle.text.specs.Line.{barLength}
-use Rattle.text.specs.Text.{keysOf, linesBelow}
+use Rattle.text.specs.Text.{linesBelow}
 use Rattle.text.proofs.Writes.{lines-none, lines-more}
 use Rattle.text.proofs.whole.put_lines.Statement.{statement}
 use Rattle.text.proofs.whole.put_lines.Tie as tie
 
 abbrev Inv-loop : tie.InvT-loop
-Inv-loop text₀ at shown keys next₀ key₀ text next key =
-    (key ≤ keys) × (keys ≡ keysOf shown) × (next ≤ at + key * barLength) × (length text ≡ length text₀) × (take next text ≡ take at text₀ ++ linesBelow shown key)
+Inv-loop text₀ at shown next₀ key₀ text next key =
+    (key ≤ keyCount) × (next ≤ at + key * barLength) × (length text ≡ length text₀) × (take next text ≡ take at text₀ ++ linesBelow shown key)
 
 abbrev μ-loop : tie.MeasureT-loop
-μ-loop text₀ at shown keys next₀ key₀ text next key = keys - key
-
-at-most-requires : tie.Need-at-most-requires Inv-loop μ-loop
-at-most-requires c κs = tt
-
-mul-keys : tie.Need-mul-keys Inv-loop μ-loop
-mul-keys c = omega (arith, c .at-most .ensures)
+μ-loop text₀ at shown next₀ key₀ text next key = keyCount - key
 
 loop-holds : tie.Need-loop-holds Inv-loop μ-loop
 loop-holds c =
-    let a = c .before .before .args in
-    (omega arith, rw (c .at-most .ensures), omega arith, refl, sym (lines-none (take (a .at) (a .text .now)) (a .shown)))
+    let a = c .before .args in
+    (omega arith, omega arith, refl, sym (lines-none (take (a .at) (a .text .now)) (a .shown)))
 
 put-key-requires : tie.Need-put-key-requires Inv-loop μ-loop
-put-key-requires c κs = (omega (arith, c .before .before .loop .inv .1), omega (arith, c .before .before .loop .inv .1))
+put-key-requires c κs = (omega arith, omega arith)
 
 add-key : tie.Need-add-key Inv-loop μ-loop
 add-key c = omega arith
@@ -39,20 +34,19 @@ loop-less c = omega arith
 
 loop-again : tie.Need-loop-again Inv-loop μ-loop
 loop-again c =
-    let a = c .before .before .before .before .before .before .before .before .args in
+    let a = c .before .before .before .before .before .before .before .args in
     let l = c .before .before .before .before .before .loop in
     let k = c .before .before .put-key .ensures in
-    (omega arith, l .inv .1, omega (arith, k .0), c .before .text .given ∙ l .inv .3, rw (k .1, l .inv .4) (lines-more (take (a .at) (a .text .now)) (a .shown) (l .key)))
+    (omega arith, omega (arith, k .0), c .before .text .given ∙ l .inv .2, rw (k .1, l .inv .3) (lines-more (take (a .at) (a .text .now)) (a .shown) (l .key)))
 
 same-length : tie.Need-same-length Inv-loop μ-loop
-same-length c = c .before .loop .inv .3
+same-length c = c .before .loop .inv .2
 
 returns : tie.Need-returns Inv-loop μ-loop
 returns c =
-    let a = c .before .before .before .before .args in
     let l = c .before .loop in
-    let e : l .key ≡ keysOf (a .shown) = omega (arith, l .inv .1) in
-    (omega (arith, l .inv .1), rw e at (l .inv .4))
+    let e : l .key ≡ keyCount = omega arith in
+    (omega arith, rw e at (l .inv .3))
 
 pub put-lines-spec : {M : Type 1} → statement M
 put-lines-spec =
@@ -60,8 +54,6 @@ put-lines-spec =
     (tie.spec
     Inv-loop
     μ-loop
-    at-most-requires
-    mul-keys
     loop-holds
     put-key-requires
     add-key
