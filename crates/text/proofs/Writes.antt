@@ -7,6 +7,7 @@ use native.Mathlib.Numerals.{add-one}
 use native.Mathlib.Omega.{arith}
 use lib.ListN.{length, getD, take, length-append, List·getD-append}
 use lib.Seq.{ext-getD, length-take-le, getD-take, getD-append-add}
+use Rattle.io.specs.Counts.{Counts}
 use Rattle.word.specs.Store.{laidOver}
 use Rattle.word.proofs.Tests.{below-or-not}
 use Rattle.word.proofs.Intervals.{covers-in, covers-before}
@@ -35,6 +36,10 @@ module _ (bytes : List ℕ) (o : ℕ) (part : List ℕ) (room : o + length part 
   pub laid-take : take (o + length part) (laidOver bytes o (length part) part) ≡ take o bytes ++ part
   laid-take =
       ext-getD 0 (take (o + length part) (laidOver bytes o (length part) part)) (take o bytes ++ part) (whole ∙ sym (length-append (take o bytes) part ∙ rw front)) (λ i l. laid-each i (rw whole at l))
+
+-- as many bytes as a buffer has can be counted
+pub counts : (n : ℕ) (buffer : List ℕ) → n ≤ length buffer → Counts n buffer
+counts n buffer h = (h, sym (length-take-le n buffer h))
 
 -- five parts that were written one after the other, as one
 pub joined : (f a b c d e : List ℕ) → f ++ a ++ b ++ c ++ d ++ e ≡ f ++ (a ++ b ++ c ++ d ++ e)

@@ -1,10 +1,11 @@
 -- The whole text, for what is shown of a bus and for a file (document 01, the Run case).
-use Prim.Native.Nat.{ℕ, zero, suc, _+_, _*_, _/_, _%_, _≤_}
+use Prim.Native.Nat.{ℕ, zero, suc, _+_, _*_, _/_, _%_}
 use mathlib.Core.Bool.{cond}
 use mathlib.Core.List.{List, [], _++_}
 use mathlib.Core.Path.{_≡_}
 use lib.Dec.{eqb, ltb}
 use lib.ListN.{length, getD, take}
+use Rattle.io.specs.Counts.{Counts}
 use Rattle.word.specs.Table.{table}
 use Rattle.address.specs.Layout.{barCount}
 use Rattle.address.specs.Limits.{limits}
@@ -58,6 +59,6 @@ fileMost = 65536
 unfoldable pub textOf : List ℕ → List ℕ
 textOf file = cond (ltb fileMost (length file)) refusedLong (shownText (shownOf (startOf limits file)))
 
--- the first n bytes of a buffer are the text
+-- the first n bytes of a buffer are the text; `Counts` says that there are as many
 abbrev pub Holds : List ℕ → ℕ → List ℕ → Type 0
-Holds buffer n text = (n ≤ length buffer) × (take n buffer ≡ text)
+Holds buffer n text = Counts n buffer × (take n buffer ≡ text)

@@ -8,4 +8,3 @@ pub use shown::Shown;
 pub use whole::FILE_MOST;
 pub use whole::TEXT_ROOM;
 pub use whole::file_text;
-pub use whole::shown_text;

@@ -67,13 +67,6 @@ fn put_shown(text: &mut [u8], shown: Shown) -> usize
     }
 }
 
-// The text for what is shown goes to the front of the buffer; its length.
-pub fn shown_text(text: &mut [u8; TEXT_ROOM], shown: Shown) -> usize
-    ensures { λ r. ⌜ Holds (now (text .exit)) r (shownText shown) ⌝ }
-{
-    put_shown(text, shown)
-}
-
 // The text for a file goes to the front of the buffer; its length.
 pub fn file_text(text: &mut [u8; TEXT_ROOM], file: &[u8]) -> usize
     ensures { λ r. ⌜ Holds (now (text .exit)) r (textOf (now (file .entry))) ⌝ }

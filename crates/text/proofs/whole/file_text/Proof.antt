@@ -2,6 +2,7 @@
 use borrow.Author.Tests.{lt-ltb, le-ltb}
 use Rattle.text.specs.Text.{textOf}
 use borrow.Author.Needs.{needs}
+use Rattle.text.proofs.Writes.{counts}
 use Rattle.text.proofs.whole.file_text.Statement.{statement}
 use Rattle.text.proofs.whole.file_text.Tie as tie
 
@@ -13,7 +14,7 @@ put-bytes-requires c κs = search needs
 
 returns : tie.Need-returns
 unfolding textOf
-returns c = (search needs, rw (c .put-bytes .ensures .1, lt-ltb _ _ (c .before .before .before .if1 .taken)))
+returns c = (counts _ _ (search needs), rw (c .put-bytes .ensures .1, lt-ltb _ _ (c .before .before .before .if1 .taken)))
 
 start-requires : tie.Need-start-requires
 start-requires c κs = search needs
@@ -26,7 +27,7 @@ put-shown-requires c κs = search needs
 
 returns-2 : tie.Need-returns-2
 unfolding textOf
-returns-2 c = (search needs, rw (c .put-shown .ensures .1, c .before .shown-of .ensures, c .before .before .start .ensures, le-ltb _ _ (c .before .before .before .before .if1 .left)))
+returns-2 c = (counts _ _ (search needs), rw (c .put-shown .ensures .1, c .before .shown-of .ensures, c .before .before .start .ensures, le-ltb _ _ (c .before .before .before .before .if1 .left)))
 
 pub file-text-spec : {M : Type 1} → statement M
 file-text-spec =
