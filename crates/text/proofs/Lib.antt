@@ -1,0 +1,3 @@
+-- The laws of the text.
+pub mod Writes
+pub mod Numerals

@@ -1,0 +1,4 @@
+-- The text that the placement program prints.
+pub mod Numeral
+pub mod Line
+pub mod Text
