@@ -1,3 +1,4 @@
 -- The laws of the text.
 pub mod Writes
 pub mod Numerals
+pub mod Examples

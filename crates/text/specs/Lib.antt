@@ -2,3 +2,4 @@
 pub mod Numeral
 pub mod Line
 pub mod Text
+pub mod Examples
