@@ -1,0 +1,4 @@
+-- Enumeration, histories, and demand 3.
+pub mod Enumerate
+pub mod History
+pub mod Truth
