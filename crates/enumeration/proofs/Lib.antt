@@ -1,0 +1,2 @@
+-- The laws that the crates above cite.
+pub mod Lists

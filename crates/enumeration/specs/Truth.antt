@@ -1,0 +1,105 @@
+-- Demand 3. "On a bus from an accepted file, after any accesses and resets, if no BAR of the declared function is showing its size, the enumeration of document 01 reports the declared identity, pin, slots, sizes, capability ids and offsets, and the addresses that memory lookup uses, and leaves those addresses as they were. So two functions with equal reports agree in all of these. A 4 GiB BAR counts as an empty slot."
+-- proofs/Truths.antt proves `Demand`, proofs/Follows.antt what follows from it.
+use Prim.Native.Nat.{ℕ, _+_, _*_, _<_}
+use mathlib.Core.Bool.{false, _||_, cond}
+use mathlib.Core.List.{List, [], _∷_, _++_}
+use mathlib.Core.Path.{_≡_}
+use lib.Dec.{eqb}
+use lib.ListN.{getD}
+use Rattle.word.specs.Table.{table}
+use Rattle.address.specs.Layout.{barCount}
+use Rattle.address.specs.Limits.{limits}
+use Rattle.bar.specs.Bar.{noBar}
+use Rattle.bar.specs.Range.{fourGib}
+use Rattle.capability.specs.Declaration.{declaredCapability, lengthAt}
+use Rattle.capability.specs.Offset.{offsetAt}
+use Rattle.config.specs.PowerOn.{pinOf}
+use Rattle.config.specs.State.{barAt}
+use Rattle.config.specs.declared.function.Function.{Function}
+use Rattle.config.specs.declared.state.FunctionState.{FunctionState}
+use Rattle.declaration.specs.Good.{Bytes}
+use Rattle.declaration.specs.declared.answer.Declaration.{Declaration}
+use Rattle.declaration.specs.declared.answer.DeclarationAnswer.the-variants as answer
+use Rattle.bus.specs.Bus.{functionAt}
+use Rattle.bus.specs.Lookup.{decodes, lookupOf}
+use Rattle.bus.specs.Outcome.{declarationOf}
+use Rattle.bus.specs.Start.{declaredFunction, placementIn, startOf}
+use Rattle.bus.specs.declared.memory_lookup.LookupAnswer.the-variants as lookup
+use Rattle.bus.specs.declared.state.Bus.{Bus}
+use Rattle.enumeration.specs.Enumerate.{emptySlot, reportWith, absentReport, enumerateOf}
+use Rattle.enumeration.specs.History.{History, resets, ran}
+use Rattle.enumeration.specs.declared.report.Listed.{Listed}
+use Rattle.enumeration.specs.declared.report.Report.{Report}
+use Rattle.enumeration.specs.declared.report.SlotReport.{SlotReport}
+
+-- an accepted file
+pub record Accepted (file : List ℕ) : Type 0 where
+  pub bytes : Bytes file
+  pub answer : startOf limits file .answer ≡ answer.Accepted
+
+-- what it declares, and the bus that it starts
+abbrev pub declared : List ℕ → Declaration
+declared file = declarationOf limits file
+
+abbrev pub started : List ℕ → Bus
+started file = startOf limits file .bus
+
+-- the BAR in a slot as it is reported: its declared size at the address where it is. "A 4 GiB BAR counts as an empty slot."
+abbrev pub slotReport : ℕ → ℕ → SlotReport
+slotReport size address = cond (eqb size 0 || eqb size fourGib) emptySlot (record { size = size; address = address })
+
+abbrev pub sizeIn : Function → ℕ → ℕ
+sizeIn f i = getD (f .bars) i noBar .size
+
+abbrev pub addressIn : FunctionState → ℕ → ℕ
+addressIn s i = barAt (s .bars) i .address
+
+abbrev pub declaredSlots : Function → FunctionState → List SlotReport
+declaredSlots f s = table barCount (λ i. slotReport (sizeIn f i) (addressIn s i))
+
+-- the capabilities in order: "Capabilities start at 0x40, each at the next multiple of 4 after the one before"
+abbrev pub declaredListed : Function → ℕ → Listed
+declaredListed f i = record { offset = offsetAt (lengthAt (f .capabilities)) i; id = declaredCapability (f .capabilities) i .id }
+
+abbrev pub declaredList : Function → List Listed
+declaredList f = table (f .capabilities .count) (declaredListed f)
+
+-- the true report of a declared function whose BARs are where its state has them
+abbrev pub declaredReport : Function → FunctionState → Report
+declaredReport f s = reportWith (f .contents .identity) (pinOf (f .contents .intx)) (declaredSlots f s) (declaredList f)
+
+-- no BAR is showing its size
+abbrev pub Quiet : FunctionState → Type 0
+Quiet s = (i : ℕ) → i < barCount → 0 < barAt (s .bars) i .plan .size → barAt (s .bars) i .probing ≡ false
+
+-- the truth about the function at index k, in device order, on a bus
+pub record Truth (d : Declaration) (b : Bus) (k : ℕ) : Type 0 where
+  pub report : enumerateOf b (declaredFunction d k .device) .report ≡ declaredReport (declaredFunction d k) (functionAt b k)
+  pub leaves : enumerateOf b (declaredFunction d k .device) .bus ≡ b
+  -- "the addresses that memory lookup uses": one byte at a reported address is that slot's first, exactly if command bit 1 is set
+  pub uses : (i : ℕ) → i < barCount → 0 < getD (enumerateOf b (declaredFunction d k .device) .report .slots) i emptySlot .size → lookupOf b (getD (enumerateOf b (declaredFunction d k .device) .report .slots) i emptySlot .address) 1 ≡ cond (decodes (functionAt b k)) (lookup.Hit (declaredFunction d k .device) i 0) lookup.Miss
+
+-- the demand
+abbrev pub Demand : Type 0
+Demand = (file : List ℕ) → Accepted file → (h : History) (k : ℕ) → k < declared file .count → Quiet (functionAt (ran (started file) h) k) → Truth (declared file) (ran (started file) h) k
+
+-- "So two functions with equal reports agree in all of these": of any two files, after any two histories. A size of 0 is an empty slot
+abbrev pub reportedSize : Function → ℕ → ℕ
+reportedSize f i = slotReport (sizeIn f i) 0 .size
+
+pub record Agree (f : Function) (s : FunctionState) (g : Function) (t : FunctionState) : Type 0 where
+  pub identity : f .contents .identity ≡ g .contents .identity
+  pub pin : pinOf (f .contents .intx) ≡ pinOf (g .contents .intx)
+  pub sizes : (i : ℕ) → i < barCount → reportedSize f i ≡ reportedSize g i
+  pub addresses : (i : ℕ) → i < barCount → 0 < reportedSize f i → addressIn s i ≡ addressIn t i
+  pub count : f .capabilities .count ≡ g .capabilities .count
+  pub list : (i : ℕ) → i < f .capabilities .count → declaredListed f i ≡ declaredListed g i
+
+-- an undeclared device is absent after every history
+abbrev pub Absent : Declaration → Bus → ℕ → Type 0
+Absent d b device = ((k : ℕ) → k < d .count → declaredFunction d k .device ≡ device → ⊥) → enumerateOf b device ≡ record { report = absentReport; bus = b }
+
+-- after a reset with no later access every BAR is where placement put it, and the report is that of the start
+pub record AsPlaced (file : List ℕ) (h : History) (k : ℕ) : Type 0 where
+  pub address : (i : ℕ) → i < barCount → addressIn (functionAt (ran (started file) (h ++ (resets ∷ []))) k) i ≡ getD (placementIn (declared file) .addresses) (k * barCount + i) 0
+  pub report : enumerateOf (ran (started file) (h ++ (resets ∷ []))) (declaredFunction (declared file) k .device) .report ≡ enumerateOf (started file) (declaredFunction (declared file) k .device) .report
