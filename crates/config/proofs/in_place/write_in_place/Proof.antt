@@ -7,7 +7,8 @@ use denote.Steps.{only}
 use denote.Struct.Laws as LL
 use denote.Triple.Spec.{tripleOf}
 use denote.Triple.Table.{entered, cited}
-use Rattle.walks.proofs.InPlace.{Flat, Pair, flat-struct, in-place}
+use Rattle.walks.proofs.Flats.{Flat, Pair, flat-struct}
+use Rattle.walks.proofs.InPlace.{in-place}
 use Rattle.config.specs.Write.{writeOf}
 use Rattle.config.specs.declared.in_place.ConfigWrite.{ConfigWrite}
 use Rattle.config.specs.declared.state.FunctionState.{FunctionState}
@@ -35,7 +36,7 @@ argument = flat-struct P.the-type P′.the-laws P′.the-plain P′.the-copy
 abbrev answer : Flat N.the-row
 answer = flat-struct N.the-type N′.the-laws N′.the-plain N′.the-copy
 
-abbrev result : Pair T.the-type T′.the-laws T′.the-plain P.the-row argument N.the-row answer S.the-row (S.struct .name)
+abbrev result : Pair T.the-type T′.the-laws N.the-row answer S.the-row (S.struct .name)
 result = record {
   answer = λ r. r .reply;
   state = λ r. r .state;
