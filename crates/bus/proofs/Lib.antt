@@ -14,3 +14,5 @@ pub mod SoundParts
 pub mod SoundRanges
 pub mod SoundSteps
 pub mod SoundBuses
+pub mod AccessCases
+pub mod Refused
