@@ -16,3 +16,4 @@ pub mod SoundSteps
 pub mod SoundBuses
 pub mod AccessCases
 pub mod Refused
+pub mod SoundAccesses
