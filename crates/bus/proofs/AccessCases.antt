@@ -1,6 +1,6 @@
 -- What a write by device can answer and leave: five cases. Whatever is shown of these holds of every write.
 use Prim.Native.Nat.{ℕ, _<_, _≤_}
-use mathlib.Core.Bool.{Bool, true, false, cond}
+use mathlib.Core.Bool.{Bool, true, false}
 use mathlib.Core.Logic.{⊎-elim}
 use mathlib.Core.Path.{_≡_, refl}
 use Rattle.word.proofs.Tests.{below-or-not, true-or-false}
@@ -12,7 +12,6 @@ use Rattle.bar.specs.declared.bar_state.Relocation.the-variants as relocation
 use Rattle.capability.specs.declared.snapshot.Snapshot.{Snapshot}
 use Rattle.config.specs.State.{barAt, noBody}
 use Rattle.config.specs.Write.{writeOf, relocatedIn}
-use Rattle.config.specs.declared.state.FunctionState.{FunctionState}
 use Rattle.config.specs.declared.write_step.WriteAnswer.{WriteAnswer}
 use Rattle.config.specs.declared.write_step.WriteAnswer.the-variants as writeAnswer
 use Rattle.bus.specs.Bus.{countOn, deviceAt, functionAt, indexOn, withFunction}

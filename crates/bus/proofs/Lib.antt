@@ -17,3 +17,4 @@ pub mod SoundBuses
 pub mod AccessCases
 pub mod Refused
 pub mod SoundAccesses
+pub mod LookupExact

@@ -1,5 +1,5 @@
 -- A sound bus stays sound through every write by device and every reset.
-use Prim.Native.Nat.{ℕ, _/_, _<_, _≤_}
+use Prim.Native.Nat.{ℕ, _<_, _≤_}
 use mathlib.Core.Bool.{true, false}
 use mathlib.Core.Logic.{⊎-elim}
 use mathlib.Core.Path.{_≡_, refl, sym, _∙_}
@@ -8,7 +8,6 @@ use borrow.Author.Tests.{ne-eqb}
 use lib.ListN.{getD}
 use Rattle.word.proofs.Tables.{getD-table}
 use Rattle.word.proofs.Tests.{below-or-not}
-use Rattle.address.specs.Layout.{barCount}
 use Rattle.bar.specs.Range.{range, meets}
 use Rattle.bar.specs.declared.range.Range.{Range}
 use Rattle.bar.proofs.Ranges.{empty-second}
