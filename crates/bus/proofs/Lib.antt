@@ -14,3 +14,7 @@ pub mod SoundParts
 pub mod SoundRanges
 pub mod SoundSteps
 pub mod SoundBuses
+pub mod AccessCases
+pub mod Refused
+pub mod SoundAccesses
+pub mod LookupExact

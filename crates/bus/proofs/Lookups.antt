@@ -28,8 +28,18 @@ module _ (b : Bus) (a w : ℕ) where
   unfolding lookupOf
   lookup-miss e h = rw e (first-none (hitAt b a) Miss (holdsAt b a w) keyCount h)
 
-  -- an access that is held starts in the range
-  pub holds-from : (key : ℕ) → holdsAt b a w key ≡ true → rangeOn b key .start ≤ a
-  unfolding holdsAt
-  holds-from key e =
-      leb-true (rangeOn b key .start) a (and-left (leb (rangeOn b key .start) a) (leb (a + w) (endOf (rangeOn b key))) (and-right (decodes (functionAt b (key / barCount))) (liesWithin (rangeOn b key) a w) e))
+  -- an access that is held: its function decodes, and it starts and ends in the range
+  module _ (key : ℕ) (e : holdsAt b a w key ≡ true) where
+    pub holds-decodes : decodes (functionAt b (key / barCount)) ≡ true
+    unfolding holdsAt
+    holds-decodes = and-left (decodes (functionAt b (key / barCount))) (liesWithin (rangeOn b key) a w) e
+
+    lies : liesWithin (rangeOn b key) a w ≡ true
+    unfolding holdsAt
+    lies = and-right (decodes (functionAt b (key / barCount))) (liesWithin (rangeOn b key) a w) e
+
+    pub holds-from : rangeOn b key .start ≤ a
+    holds-from = leb-true (rangeOn b key .start) a (and-left (leb (rangeOn b key .start) a) (leb (a + w) (endOf (rangeOn b key))) lies)
+
+    pub holds-to : a + w ≤ endOf (rangeOn b key)
+    holds-to = leb-true (a + w) (endOf (rangeOn b key)) (and-right (leb (rangeOn b key .start) a) (leb (a + w) (endOf (rangeOn b key))) lies)

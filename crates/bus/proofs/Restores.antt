@@ -3,13 +3,13 @@ use Prim.Native.Nat.{ℕ, _+_, _<_}
 use mathlib.Core.Bool.{cond}
 use mathlib.Core.List.{List}
 use mathlib.Core.Logic.{⊎-elim}
-use mathlib.Core.Path.{_≡_, sym, ap, _∙_}
+use mathlib.Core.Path.{_≡_, _∙_}
 use native.Mathlib.Omega.{arith}
 use borrow.Author.Tests.{lt-ltb, le-ltb}
 use lib.Dec.{ltb}
 use lib.ListN.{length, getD, set}
 use Rattle.word.proofs.Tests.{below-or-not, ltb-same}
-use Rattle.word.proofs.Tables.{table-ext, table-getD, table-set, getD-table}
+use Rattle.word.proofs.Tables.{length-table, table-ext, table-getD, table-set, getD-table}
 use Rattle.config.specs.Reset.{restored}
 use Rattle.config.specs.declared.state.FunctionState.{FunctionState}
 use Rattle.bus.specs.Bus.{noFunctionState}
@@ -32,3 +32,12 @@ module _ (l : List FunctionState) where
       rw o
       (table-set noFunctionState (length l) (after k) (after (k + 1)) k s h (e ∙ rw (g, lt-ltb k (k + 1) (omega arith)))
       (λ i j q. rw (ltb-same i k i (k + 1) (λ a. omega arith) (λ a. ⊎-elim (λ (p : i < k). p) (λ p. absurd (q (omega arith))) (below-or-not i k)))))
+
+  -- every place stays, and the first n hold what is restored
+  pub reset-length : (n : ℕ) → length (resetFirst l n) ≡ length l
+  unfolding resetFirst
+  reset-length n = length-table (length l) (after n)
+
+  pub reset-at : (n k : ℕ) → k < length l → k < n → getD (resetFirst l n) k noFunctionState ≡ restored (getD l k noFunctionState)
+  unfolding resetFirst
+  reset-at n k h m = getD-table (length l) (after n) k noFunctionState h ∙ rw (lt-ltb k n m)

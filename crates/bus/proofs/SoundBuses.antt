@@ -6,7 +6,7 @@ use mathlib.Core.Logic.{⊎-elim}
 use mathlib.Core.Path.{_≡_, sym, _∙_}
 use native.Mathlib.Omega.{arith}
 use borrow.Author.Tests.{lt-ltb, le-ltb}
-use lib.ListN.{length, getD, length-set}
+use lib.ListN.{length, getD, set, length-set}
 use lib.Seq.{getD-set-same, getD-set-other}
 use Rattle.word.proofs.Tests.{below-or-not, same-or-not}
 use Rattle.address.specs.Layout.{barCount}
@@ -45,6 +45,27 @@ clear-moved a at to z most c e aligned within free =
     }
 
 module _ (d : Declaration) (b : Bus) (s : Sound d b) where
+  -- with other functions, where each is sound and all ranges are clear
+  module _ (fs : List FunctionState) where
+    abbrev all : Bus
+    all = record { aperture = b .aperture; devices = b .devices; functions = fs; count = b .count }
+
+    sound-all : length fs ≡ functionRoom → ((k : ℕ) → k < b .count → SoundFunction (startedFunction d k) (functionAt all k)) → Clear (b .aperture) (rangeOn all) → Sound d all
+    sound-all long each clear =
+        record {
+          good = s .good;
+          accepted = s .accepted;
+          aperture = s .aperture;
+          count = s .count;
+          few = s .few;
+          devices = s .devices;
+          ascends = s .ascends;
+          most = s .most;
+          room = long;
+          functions = each;
+          committed = clear;
+        }
+
   module _ (k : ℕ) (h : k < d .count) where
     there : k < length (b .functions)
     there = let r = s .room in let c = s .count in let n = s .few in omega arith
@@ -67,19 +88,9 @@ module _ (d : Declaration) (b : Bus) (s : Sound d b) where
       -- with another function in its place, where all ranges are clear
       sound-with : SoundFunction (startedFunction d k) f → Clear (b .aperture) (rangeOn (withFunction b k f)) → Sound d (withFunction b k f)
       sound-with g c =
-          record {
-            good = s .good;
-            accepted = s .accepted;
-            aperture = s .aperture;
-            count = s .count;
-            few = s .few;
-            devices = s .devices;
-            ascends = s .ascends;
-            most = s .most;
-            room = length-set (b .functions) k f ∙ s .room;
-            functions = λ j l. ⊎-elim (λ (q : j ≡ k). rw (q, function-here) g) (λ (q : j ≡ k → ⊥). rw (function-other j q) (s .functions j l)) (same-or-not j k);
-            committed = c;
-          }
+          sound-all (set (b .functions) k f) (length-set (b .functions) k f ∙ s .room)
+          (λ j l. ⊎-elim (λ (q : j ≡ k). rw (q, function-here) g) (λ (q : j ≡ k → ⊥). rw (function-other j q) (s .functions j l)) (same-or-not j k))
+          c
 
       -- where its BARs are where they were
       same-ranges : ((i : ℕ) → rangeOf (barAt (f .bars) i) ≡ rangeOf (barAt (functionAt b k .bars) i)) → (key : ℕ) → rangeOn (withFunction b k f) key ≡ rangeOn b key
@@ -147,28 +158,14 @@ module _ (d : Declaration) (b : Bus) (s : Sound d b) where
 
   -- every function reset
   module _ (fs : List FunctionState) (long : length fs ≡ functionRoom) (each : (k : ℕ) → k < d .count → getD fs k noFunctionState ≡ resetDone (functionAt b k) .state) where
-    abbrev all : Bus
-    all = record { aperture = b .aperture; devices = b .devices; functions = fs; count = b .count }
-
-    reset-ranges : (key : ℕ) → rangeOn all key ≡ planOn b key
+    reset-ranges : (key : ℕ) → rangeOn (all fs) key ≡ planOn b key
     unfolding rangeOn planOn
     reset-ranges key =
         let k = key / barCount in
         ⊎-elim (λ (h : k < d .count). rw (sound-count d b s, lt-ltb k (d .count) h, each k h, reset-bars (functionAt b k) (key % barCount)))
         (λ (h : d .count ≤ k). rw (sound-count d b s, le-ltb k (d .count) h)) (below-or-not k (d .count))
 
-    pub sound-reset : Sound d all
+    pub sound-reset : Sound d (all fs)
     sound-reset =
-        record {
-          good = s .good;
-          accepted = s .accepted;
-          aperture = s .aperture;
-          count = s .count;
-          few = s .few;
-          devices = s .devices;
-          ascends = s .ascends;
-          most = s .most;
-          room = long;
-          functions = λ k l. let h : k < d .count = rw (s .count) at l in rw (each k h) (reset-sound d (s .good) k (functionAt b k) (s .functions k l));
-          committed = clear-same (b .aperture) (planOn b) (rangeOn all) reset-ranges (sound-planned d b s);
-        }
+        sound-all fs long (λ k l. let h : k < d .count = rw (s .count) at l in rw (each k h) (reset-sound d (s .good) k (functionAt b k) (s .functions k l)))
+        (clear-same (b .aperture) (planOn b) (rangeOn (all fs)) reset-ranges (sound-planned d b s))

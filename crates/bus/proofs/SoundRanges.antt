@@ -1,7 +1,7 @@
 -- The ranges of a sound bus, by key: where each BAR is, where a reset puts it, and that a register shows its address as it is.
-use Prim.Native.Nat.{ℕ, _+_, _*_, _/_, _%_, _<_, _≤_}
+use Prim.Native.Nat.{ℕ, _/_, _%_, _<_, _≤_}
 use mathlib.Core.Logic.{⊎-elim}
-use mathlib.Core.Path.{_≡_, sym, subst, _∙_}
+use mathlib.Core.Path.{_≡_, sym, subst}
 use native.Mathlib.Nat.{mod-lt}
 use native.Mathlib.Omega.{arith}
 use borrow.Author.Tests.{lt-ltb, le-ltb}
@@ -17,9 +17,11 @@ use Rattle.config.specs.State.{barAt}
 use Rattle.declaration.specs.declared.answer.Declaration.{Declaration}
 use Rattle.placement.specs.Place.{noRange}
 use Rattle.bus.specs.Bus.{functionAt, barOn, rangeOn}
+use Rattle.bus.specs.Access.{keyOf}
 use Rattle.bus.specs.Start.{declaredFunction, placementIn}
 use Rattle.bus.specs.Sound.{startedBus, planOn, Clear, Sound}
 use Rattle.bus.specs.declared.state.Bus.{Bus}
+use Rattle.bus.proofs.Committed.{range-slot}
 use Rattle.bus.proofs.Powered.{start-bar, bus-countOn, bus-function}
 use Rattle.bus.proofs.Sounds.{started-clear}
 use Rattle.bus.proofs.SoundParts.{sound-count, sound-plan, sound-sized}
@@ -65,10 +67,8 @@ module _ (d : Declaration) (b : Bus) (s : Sound d b) where
   -- a register shows a committed address as it is, and takes it back as an address
   pub sound-address : (k i : ℕ) → k < d .count → i < barCount → 0 < barAt (functionAt b k .bars) i .plan .size → Address (barAt (functionAt b k .bars) i .address)
   sound-address k i h l z =
-      let key = k * barCount + i in
-      let p : key / barCount ≡ k = omega arith in
-      let q : key % barCount ≡ i = omega arith in
-      let e : rangeOn b key ≡ rangeOf (barAt (functionAt b k .bars) i) = sound-range key (rw p h) ∙ rw (p, q) in
+      let key = keyOf k i in
+      let e : rangeOn b key ≡ rangeOf (barAt (functionAt b k .bars) i) = range-slot b k i (rw (sound-count d b s) h) l in
       let m = s .committed .aligned key (rw e z) in
       placed-address (barAt (functionAt b k .bars) i .plan .size) (barAt (functionAt b k .bars) i .address) (sound-sized d b s k h i l z)
       (multiple-zero (rangeOf (barAt (functionAt b k .bars) i)) (rw e at m))

@@ -6,3 +6,4 @@ pub mod Access
 pub mod Lookup
 pub mod Reset
 pub mod Sound
+pub mod Held

@@ -1,4 +1,4 @@
--- What stays true of a bus from an accepted file through every access and every reset, and what is true of it at its start besides. proofs/Sounds.antt shows both of the start, proofs/SoundBuses.antt that writes, relocations and resets keep the first.
+-- What stays true of a bus from an accepted file through every access and every reset, and what is true of it at its start besides. proofs/Sounds.antt shows both of the start, proofs/SoundAccesses.antt that every write by device and every reset keeps the first.
 use Prim.Native.Nat.{ℕ, _/_, _<_, _≤_}
 use mathlib.Core.Bool.{true, false, cond}
 use mathlib.Core.Path.{_≡_}
