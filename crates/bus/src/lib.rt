@@ -1,5 +1,6 @@
-// The bus: start, dispatch, relocation, lookup, reset.
+// The bus: start, dispatch, relocation, lookup, reset; by value, and write and reset on a lent bus.
 mod bus_reset;
+mod in_place;
 mod memory_lookup;
 mod power_up;
 mod ranges;
@@ -10,6 +11,9 @@ mod write_access;
 pub use bus_reset::BusResetAnswer;
 pub use bus_reset::BusResetDone;
 pub use bus_reset::reset;
+pub use in_place::BusWrite;
+pub use in_place::reset_in_place;
+pub use in_place::write_in_place;
 pub use memory_lookup::LookupAnswer;
 pub use memory_lookup::lookup;
 pub use power_up::Started;
