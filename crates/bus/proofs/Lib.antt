@@ -14,3 +14,6 @@ pub mod SoundParts
 pub mod SoundRanges
 pub mod SoundSteps
 pub mod SoundBuses
+pub mod SoundDeclared
+pub mod Devices
+pub mod OwnPlaces
