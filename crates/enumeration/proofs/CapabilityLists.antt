@@ -26,7 +26,7 @@ use Rattle.bus.proofs.SoundParts.{sound-admitted}
 use Rattle.enumeration.specs.Enumerate.{asked, listFrom, listRead}
 use Rattle.enumeration.specs.Truth.{declaredListed, declaredList}
 use Rattle.enumeration.specs.declared.report.Listed.{Listed}
-use Rattle.enumeration.proofs.Constants.{status-asked, pointer-asked, head-given, id-asked, next-asked}
+use Rattle.enumeration.proofs.ListPlaces.{status-asked, pointer-asked, head-given, id-asked, next-asked}
 
 module _ (d : Declaration) (b : Bus) (s : Sound d b) (k : ℕ) (h : k < d .count) where
   abbrev its : Function

@@ -1,29 +1,25 @@
--- What no write can change reads as it was declared: identity, pin, status, pointer, and the header of each capability.
+-- What no write can change reads as it was declared: a read that meets no BAR and no effect, one in the header, the identity, the pin.
 use Prim.Native.Nat.{ℕ, _+_, _-_, _%_, _^_, _<_, _≤_}
-use mathlib.Core.Bool.{true, false, cond}
+use mathlib.Core.Bool.{true, false}
 use mathlib.Core.List.{List}
 use mathlib.Core.Logic.{_⊎_, inl, inr, ⊎-elim}
 use mathlib.Core.Path.{_≡_, refl, _∙_}
-use native.Mathlib.Nat.{mod-mod, mod-lt, mod-eq-of-lt}
+use native.Mathlib.Nat.{mod-mod, mod-eq-of-lt}
 use native.Mathlib.Omega.{arith}
-use lib.Dec.{eqb}
 use lib.ListN.{getD}
 use Rattle.word.specs.Number.{byteOf}
 use Rattle.word.specs.Width.{widthOk}
 use Rattle.word.proofs.ReadBytes.{read-bytes}
-use Rattle.word.proofs.Tests.{below-or-not, true-or-false}
 use Rattle.address.specs.Layout as layout
 use Rattle.address.specs.Layout.{configSpaceSize}
 use Rattle.address.specs.Check.{accessOk}
 use Rattle.address.proofs.Accesses.{Aligned, ok-aligned, access-width-pos, access-width-most, end-fits}
 use Rattle.bar.specs.declared.bar_state.BarState.{BarState}
 use Rattle.capability.specs.Layout.{placedOf}
-use Rattle.capability.specs.Owner.{capabilityCount, capabilityAt, startOf}
-use Rattle.capability.specs.Size.{headerSize}
 use Rattle.capability.specs.Touch.{touchOf}
 use Rattle.capability.specs.declared.effect_access.Touch.the-variants as touch
 use Rattle.capability.specs.declared.placed.Placed.{Placed}
-use Rattle.capability.proofs.Untouched.{low-untouched, header-untouched}
+use Rattle.capability.proofs.Untouched.{low-untouched}
 use Rattle.config.specs.Admitted.{Admitted}
 use Rattle.config.specs.PowerOn.{identityFields, pinOf}
 use Rattle.config.specs.Space.{spaceOf}
@@ -31,12 +27,10 @@ use Rattle.config.specs.State.{inBar}
 use Rattle.config.specs.declared.function.Function.{Function}
 use Rattle.config.specs.declared.function.Intx.{Intx}
 use Rattle.config.specs.declared.state.FunctionState.{FunctionState}
-use Rattle.config.proofs.Chains.{header-unmasked, id-image, next-image}
 use Rattle.config.proofs.CommandMasks.{zero-mask}
 use Rattle.config.proofs.Headers.{Header, header-of}
 use Rattle.config.proofs.Identities.{vendor-stands, device-stands, revision-stands, interface-stands, subclass-stands, base-class-stands, subsystem-vendor-stands, subsystem-stands, identity-image}
-use Rattle.config.proofs.Layings.{starts-from, ends-inside, start-byte}
-use Rattle.config.proofs.Listed.{status-image, status-high, pointer-image, pin-image}
+use Rattle.config.proofs.Listed.{pin-image}
 use Rattle.config.proofs.PlainAccesses.{plain-read}
 use Rattle.config.proofs.Places.{Identified, identity-places}
 use Rattle.config.proofs.Slots.{bar-before, bar-after}
@@ -49,7 +43,7 @@ use Rattle.bus.specs.Start.{declaredFunction, barsPlaced, placementIn}
 use Rattle.bus.specs.declared.state.Bus.{Bus}
 use Rattle.bus.proofs.Devices.{sound-read}
 use Rattle.bus.proofs.SoundDeclared.{declaredPowerOn, sound-apart, sound-laid, sound-constant}
-use Rattle.bus.proofs.SoundParts.{sound-admitted, sound-placed}
+use Rattle.bus.proofs.SoundParts.{sound-admitted}
 use Rattle.enumeration.specs.Enumerate.{asked, answersByte, identityRead}
 
 pin-small : (x : Intx) → GoodIntx x → pinOf x < 256
@@ -102,7 +96,7 @@ module _ (d : Declaration) (b : Bus) (s : Sound d b) (k : ℕ) (h : k < d .count
         (λ i l. sound-constant d b s k h (o + i) (zero-mask configSpaceSize (its .contents) bars laid admitted (o + i) (header i l) (λ e. ⊎-elim (λ p. omega arith) (λ p. omega arith) apart) (λ e. ⊎-elim (λ p. omega arith) (λ p. omega arith) apart)) ∙ each i l)
 
   -- so one byte of it
-  header-byte : (o v : ℕ) → accessOk configSpaceSize o 1 ≡ true → Header o → ((o < layout.barStart) ⊎ (layout.barEnd ≤ o)) → ((o + 1 ≤ layout.command) ⊎ (layout.status ≤ o)) → getD image o 0 ≡ v → v < 256 → asked b device o 1 ≡ v
+  pub header-byte : (o v : ℕ) → accessOk configSpaceSize o 1 ≡ true → Header o → ((o < layout.barStart) ⊎ (layout.barEnd ≤ o)) → ((o + 1 ≤ layout.command) ⊎ (layout.status ≤ o)) → getD image o 0 ≡ v → v < 256 → asked b device o 1 ≡ v
   header-byte o v ok header out apart e l =
       header-asked o 1 (ok-aligned configSpaceSize o 1 ok) (omega (arith, header .low)) out v
       (λ i m. let z : o + i ≡ o = omega arith in rw z header) apart
@@ -147,64 +141,3 @@ module _ (d : Declaration) (b : Bus) (s : Sound d b) (k : ℕ) (h : k < d .count
       let l = pin-small (its .contents .intx) (s .good .functions .each k .contents .intx) in
       header-byte layout.interruptPin (pinOf (its .contents .intx)) refl (header-of layout.interruptPin (omega arith) (λ e. omega arith) (inr (omega arith))) (inr (omega arith)) (inr (omega arith))
       (pin-image configSpaceSize (its .contents) bars laid admitted ∙ mod-eq-of-lt l) l
-
-  -- the list's two places in the header
-  abbrev marked : ℕ
-  marked = cond (eqb (capabilityCount laid) 0) 0 layout.capabilitiesList
-
-  marked-small : marked < 256
-  marked-small =
-      ⊎-elim (λ (t : eqb (capabilityCount laid) 0 ≡ true). rw t (omega arith)) (λ (t : eqb (capabilityCount laid) 0 ≡ false). rw t (omega arith)) (true-or-false (eqb (capabilityCount laid) 0))
-
-  status-byte : (v : ℕ) → getD image layout.status 0 ≡ v → v < 256 → (i : ℕ) → i < 2 → getD image (layout.status + i) 0 ≡ byteOf v i
-  status-byte v e l i m =
-      ⊎-elim (λ (q : i < 1). let z : i ≡ 0 = omega arith in rw z (e ∙ omega arith))
-      (λ (q : 1 ≤ i). let z : i ≡ 1 = omega arith in rw z (status-high configSpaceSize (its .contents) bars laid admitted ∙ omega arith))
-      (below-or-not i 1)
-
-  pub status-asked : asked b device layout.status 2 ≡ marked
-  unfolding accessOk widthOk
-  status-asked =
-      header-asked layout.status 2 (ok-aligned configSpaceSize layout.status 2 refl) (omega arith) (inl (omega arith)) marked
-      (λ i l. header-of (layout.status + i) (omega arith) (λ e. omega arith) (inl (omega arith))) (inr (omega arith))
-      (status-byte marked (status-image configSpaceSize (its .contents) bars laid admitted) marked-small) ∙
-      mod-eq-of-lt (omega (arith, marked-small))
-
-  pub pointer-asked : asked b device layout.capabilityPointer 1 ≡ startOf laid 0
-  unfolding accessOk widthOk
-  pointer-asked =
-      header-byte layout.capabilityPointer (startOf laid 0) refl (header-of layout.capabilityPointer (omega arith) (λ e. omega arith) (inr (omega arith))) (inr (omega arith)) (inr (omega arith))
-      (pointer-image configSpaceSize (its .contents) bars laid admitted) (start-byte laid (admitted .laid) 0)
-
-  -- the two bytes before the body of a capability
-  module _ (i : ℕ) (m : i < capabilityCount laid) where
-    abbrev start : ℕ
-    start = startOf laid i
-
-    module _ (j : ℕ) (from : start ≤ j) (to : j < start + headerSize) where
-      head-aligned : Aligned configSpaceSize j 1
-      unfolding widthOk
-      head-aligned = record { known = refl; below = omega (arith, ends-inside laid (admitted .laid) i m); multiple = omega arith }
-
-      head-free : inBar (now .bars) j ≡ false
-      head-free = bar-after (now .bars) j (omega (arith, starts-from laid (admitted .laid) i m))
-
-      head-untouched : touchOf (now .placed) j 1 false ≡ touch.Untouched
-      head-untouched = let p = sound-placed d b s k h in rw p (header-untouched laid (rw p at (sound-apart d b s k h)) i j false m from to)
-
-      pub head-given : answersByte b device j ≡ true
-      head-given = plain-given j 1 head-aligned head-free head-untouched refl
-
-      head-asked : (v : ℕ) → v < 256 → getD image j 0 ≡ v → asked b device j 1 ≡ v
-      head-asked v l e =
-          plain-asked j 1 head-aligned head-free head-untouched v (λ n q.
-          let z : j + n ≡ j = omega arith in
-          let y : n ≡ 0 = omega arith in
-          rw (z, y) (sound-constant d b s k h j (header-unmasked configSpaceSize (its .contents) laid admitted bars i m j from to) ∙ e ∙ omega arith)) ∙
-          mod-eq-of-lt l
-
-    pub id-asked : asked b device start 1 ≡ capabilityAt laid i .id % 256
-    id-asked = head-asked start (omega arith) (omega arith) (capabilityAt laid i .id % 256) (mod-lt _ (omega arith)) (id-image configSpaceSize (its .contents) laid admitted bars i m)
-
-    pub next-asked : asked b device (start + 1) 1 ≡ startOf laid (i + 1)
-    next-asked = head-asked (start + 1) (omega arith) (omega arith) (startOf laid (i + 1)) (start-byte laid (admitted .laid) (i + 1)) (next-image configSpaceSize (its .contents) laid admitted bars i m)

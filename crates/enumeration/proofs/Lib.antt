@@ -1,5 +1,6 @@
 -- The truth of enumeration.
 pub mod Constants
+pub mod ListPlaces
 pub mod OneSlot
 pub mod AllSlots
 pub mod CapabilityLists
