@@ -18,3 +18,6 @@ pub mod AccessCases
 pub mod Refused
 pub mod SoundAccesses
 pub mod LookupExact
+pub mod SoundDeclared
+pub mod Devices
+pub mod OwnPlaces

@@ -24,3 +24,4 @@ pub mod Snapshots
 pub mod Views
 pub mod RustWalks
 pub mod RustModes
+pub mod Untouched

@@ -50,13 +50,13 @@ module _ (space : ℕ) (f : Contents) (bars : List BarState) (p : Placed) (s : A
   pub bytes-none : (g : ConfigByte → ℕ) (j : ℕ) → byteOk space p j ≡ false → anyHas (configFields g (f .bytes) (byteCount f)) j ≡ false
   bytes-none g j e = never _ (λ t. both (config-places (byteOk space p) g (f .bytes) (byteCount f) j (good-each space f p (s .checked)) t) e)
 
-  header-none : (g : ConfigByte → ℕ) (j : ℕ) → Header j → anyHas (configFields g (f .bytes) (byteCount f)) j ≡ false
+  pub header-none : (g : ConfigByte → ℕ) (j : ℕ) → Header j → anyHas (configFields g (f .bytes) (byteCount f)) j ≡ false
   header-none g j h = bytes-none g j (header-not-ok space p j (h .low) (h .not-line-size) (h .not-timer) (h .not-line))
 
   bars-none : (j : ℕ) → (j < layout.barStart) ⊎ (layout.barEnd ≤ j) → anyHas (barFields bars barCount) j ≡ false
   bars-none j h = never _ (λ t. let w = bar-places bars barCount j t in ⊎-elim (λ a. omega (arith, w .from)) (λ a. omega (arith, w .to)) h)
 
-  low-none : (bytes : List ℕ) (j : ℕ) → j < standardHeaderEnd → anyHas (capabilityFields p bytes (capabilityCount p)) j ≡ false
+  pub low-none : (bytes : List ℕ) (j : ℕ) → j < standardHeaderEnd → anyHas (capabilityFields p bytes (capabilityCount p)) j ≡ false
   low-none bytes j h =
       never _ (λ t.
       let r = capability-places p bytes j (capabilityCount p) t in

@@ -21,3 +21,6 @@ pub mod Reading
 pub mod Writing
 pub mod WriteCases
 pub mod Kept
+pub mod PlainAccesses
+pub mod Registers
+pub mod EmptySlots

@@ -42,7 +42,7 @@ config-places q f bytes n j h e =
     rw (own-place (getD bytes (r .0) noConfigByte .offset .0) j (one-has (configField f (getD bytes (r .0) noConfigByte)) j (r .2))) (h (r .0) (r .1))
 
 -- a place of a BAR's register
-bar-place : (b : BarState) (n j : ℕ) → anyHas (barField b n) j ≡ true → Within (registerOf (slot n)) layout.barRegisterSize j
+pub bar-place : (b : BarState) (n j : ℕ) → anyHas (barField b n) j ≡ true → Within (registerOf (slot n)) layout.barRegisterSize j
 bar-place b n j e =
     ⊎-elim (λ (t : eqb (b .plan .size) 0 ≡ true). none-has j (rw t at e)) (λ (t : eqb (b .plan .size) 0 ≡ false). covers-within (registerOf (slot n)) layout.barRegisterSize j (one-has _ j (rw t at e))) (true-or-false (eqb (b .plan .size) 0))
 
