@@ -1,0 +1,19 @@
+-- `step` turns what `write` did into plain structs.
+use borrow.Author.Needs.{needs}
+use Rattle.voussglen.proofs.writes.step.Statement.{statement}
+use Rattle.voussglen.proofs.writes.step.Tie as tie
+
+write-requires : tie.Need-write-requires
+write-requires c κs = search needs
+
+result-of-requires : tie.Need-result-of-requires
+result-of-requires c κs = search needs
+
+body-of-requires : tie.Need-body-of-requires
+body-of-requires c κs = search needs
+
+returns : tie.Need-returns
+returns c = rw (c .body-of .ensures, c .before .result-of .ensures, c .before .before .before .before .before .write .ensures)
+
+pub step-spec : {M : Type 1} → statement M
+step-spec = tie.close (tie.spec write-requires result-of-requires body-of-requires returns)

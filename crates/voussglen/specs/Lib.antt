@@ -1,0 +1,3 @@
+-- The answers of the bus as plain structs.
+pub mod Result
+pub mod Step
