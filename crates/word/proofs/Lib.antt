@@ -10,4 +10,5 @@ pub mod Stores
 pub mod Puts
 pub mod Numbers
 pub mod ReadBytes
+pub mod ReadSums
 pub mod Merges

@@ -1,6 +1,6 @@
 // Numbers in bytes, lowest byte first.
 ghost use mathlib.Core.Path.{_≡_};
-ghost use Prim.Native.Nat.{_≤_};
+ghost use Prim.Native.Nat.{_+_, _<_, _≤_};
 ghost use lib.ListN.{length, getD};
 ghost use Rattle.word.specs.Number.{number, partOf, readAt, bytesOf, merge};
 use crate::bounds::at_most;
@@ -45,11 +45,66 @@ pub fn part<'a>(bytes: &'a [u8], offset: usize, width: usize) -> &'a [u8]
     &bytes[from..to]
 }
 
+// As many bytes as there are, one after the other.
+fn read_part(bytes: &[u8], offset: usize, width: usize) -> u64
+    ensures { λ r. ⌜ r ≡ readAt (now (bytes .entry)) offset width ⌝ }
+{
+    spelt(part(bytes, offset, at_most(width, 8)))
+}
+
+// A byte that is there.
+fn byte_there(bytes: &[u8], i: usize) -> u64
+    requires { ⌜ i < length (now bytes) ⌝ }
+    ensures { λ r. ⌜ (r ≡ getD (now (bytes .entry)) i 0) × (r < 256) ⌝ }
+{
+    wide(bytes[i])
+}
+
+// Two bytes, and four, that are there: no loop, so that a config access is one load.
+fn word_there(bytes: &[u8], offset: usize) -> u64
+    requires { ⌜ offset + 2 ≤ length (now bytes) ⌝ }
+    ensures { λ r. ⌜ r ≡ readAt (now (bytes .entry)) offset 2 ⌝ }
+{
+    let a = byte_there(bytes, offset);
+    let b = byte_there(bytes, offset + 1);
+    a + 0x100 * b
+}
+
+fn dword_there(bytes: &[u8], offset: usize) -> u64
+    requires { ⌜ offset + 4 ≤ length (now bytes) ⌝ }
+    ensures { λ r. ⌜ r ≡ readAt (now (bytes .entry)) offset 4 ⌝ }
+{
+    let a = byte_there(bytes, offset);
+    let b = byte_there(bytes, offset + 1);
+    let c = byte_there(bytes, offset + 2);
+    let d = byte_there(bytes, offset + 3);
+    a + 0x100 * b + 0x1_0000 * c + 0x100_0000 * d
+}
+
+// Bytes that are there, by their width.
+fn read_there(bytes: &[u8], offset: usize, width: usize) -> u64
+    requires { ⌜ offset + width ≤ length (now bytes) ⌝ }
+    ensures { λ r. ⌜ r ≡ readAt (now (bytes .entry)) offset width ⌝ }
+{
+    if width == 4 {
+        return dword_there(bytes, offset);
+    }
+    if width == 2 {
+        return word_there(bytes, offset);
+    }
+    read_part(bytes, offset, width)
+}
+
 // The number in `width` bytes, eight at most, from `offset` on.
 pub fn read(bytes: &[u8], offset: usize, width: usize) -> u64
     ensures { λ r. ⌜ r ≡ readAt (now (bytes .entry)) offset width ⌝ }
 {
-    spelt(part(bytes, offset, at_most(width, 8)))
+    if offset <= bytes.len() {
+        if width <= bytes.len() - offset {
+            return read_there(bytes, offset, width);
+        }
+    }
+    read_part(bytes, offset, width)
 }
 
 // The four bytes of a dword.
