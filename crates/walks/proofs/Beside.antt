@@ -16,6 +16,7 @@ use denote.Struct.Laws as LL
 use denote.Struct.Struct.{Plains}
 use denote.Triple.Clauses.{Ended, Clauses, closing}
 use Rattle.walks.proofs.Flats.{Flat, Three}
+use Rattle.walks.proofs.Steps.{Step2, Ensured2, said2, to2, asks2}
 
 module _ (T : Declared) (L : LL.Laws T) (pl : Plains (fields T)) (O : Declared) (K : LL.Laws O) (po : Plains (fields O)) (P : RattleType) (F : Flat P) (R : RattleType) (N : Flat R) where
   abbrev τ : Ty
@@ -34,18 +35,12 @@ module _ (T : Declared) (L : LL.Laws T) (pl : Plains (fields T)) (O : Declared) 
   τD ν = tyStruct ν (tcons (N .ty) (tcons ω (tcons τ tnil)))
 
   module _ (D : RattleType) (ν : Sym) (pr : Three T L O K R N D ν) (spec : T .D → O .D → P .Denot → D .Denot) where
-    -- the two signatures, their clauses, and the function
+    -- the signature, its clauses, and the function
     abbrev pub signature : Signature
     signature = record { lifetimes = 2; outlives = []; params = RefMutOf (0 ∷ []) tt (plain (λ _. row T)) (λ _. tt) ∷ RefMutOf (1 ∷ []) tt (plain (λ _. row O)) (λ _. tt) ∷ plain (λ _. P) ∷ []; result = plain (λ _. R) }
 
     abbrev pub ended : Ended
     ended = record { signature = signature; kept = (yes, (yes, (yes, tt))) }
-
-    abbrev pub step-signature : Signature
-    step-signature = record { lifetimes = 0; outlives = []; params = plain (λ _. row T) ∷ plain (λ _. row O) ∷ plain (λ _. P) ∷ []; result = plain (λ _. D) }
-
-    abbrev pub step-ended : Ended
-    step-ended = record { signature = step-signature; kept = (yes, (yes, (yes, tt))) }
 
     abbrev pub fn : Name → Ty → Ty → Fn
     fn f τs ωs = record {
@@ -63,14 +58,11 @@ module _ (T : Declared) (L : LL.Laws T) (pl : Plains (fields T)) (O : Declared) 
       abbrev pub clauses : Clauses 𝓤 ended
       clauses κs a = record { ghost = Unit {0}; requires = λ _. emp 𝓤; ensures = λ _ r e. fact 𝓤 ((r ≡ pr .answer (spec (now (a .0)) (now (a .1 .0)) (a .1 .1 .0))) × ((now (e .1 .0) ≡ pr .other (spec (now (a .0)) (now (a .1 .0)) (a .1 .1 .0))) × (now (e .0) ≡ pr .state (spec (now (a .0)) (now (a .1 .0)) (a .1 .1 .0))))) }
 
-      abbrev pub step-clauses : Clauses 𝓤 step-ended
-      step-clauses κs a = record { ghost = Unit {0}; requires = λ _. emp 𝓤; ensures = λ _ r e. fact 𝓤 (r ≡ spec (a .0) (a .1 .0) (a .1 .1 .0)) }
-
     abbrev stayed : Stays (ended .signature .params) (ended .kept)
     stayed = (stay-ref (0 ∷ []) tt (plain (λ _. row T)), (stay-ref (1 ∷ []) tt (plain (λ _. row O)), (stay-none (λ _. P) yes, tt)))
 
-    abbrev pub StepC : {M : Type 1} (𝓤 : URA M) (H : Heap 𝓤) (A : Atoms 𝓤) → Contract 𝓤
-    StepC 𝓤 H A = tripleOf 𝓤 H A step-signature (closing 𝓤 H A step-ended (step-clauses 𝓤))
+    abbrev StepC : {M : Type 1} (𝓤 : URA M) (H : Heap 𝓤) (A : Atoms 𝓤) → Contract 𝓤
+    StepC 𝓤 H A = Step2 T O P D spec 𝓤 H A
 
     module _ (f : Name) (τs ωs : Ty) {M : Type 1} (𝓤 : URA M) (H : Heap 𝓤) (A : Atoms 𝓤) (W : Given 𝓤 H A) where
       module _ (κ κ′ : Lft) (q q′ : Share) (b o : ℕ) (γ : GName) (h : T .D) (b′ o′ : ℕ) (γ′ : GName) (g : O .D) (w : P .Denot) (gw : Is P w (F .val w ∷ [])) where
@@ -86,19 +78,8 @@ module _ (T : Declared) (L : LL.Laws T) (pl : Plains (fields T)) (O : Declared) 
         abbrev Post : Val → SProp 𝓤
         Post = walkOf 𝓤 H A ended stayed (clauses 𝓤) .post (((κ, (κ′, tt)), (q, (q′, tt)), tt, x, at), tt)
 
-        abbrev to : StepC 𝓤 H A .Ghost
-        to = ((tt, tt, tt, (h, (g, (w, tt))), (vals h, (vals′ g, (F .val w ∷ [], tt)))), tt)
-
-        asks : Is (row T) h (vals h) → Is (row O) g (vals′ g) → ent 𝓤 (emp 𝓤) (StepC 𝓤 H A .pre to)
-        asks was was′ =
-            qed W [] ∵ nothing ! $ owned ! P (Is P) (F .makes 𝓤 H A W) w _ gw $ fjoin ! $ owned ! (row O) (Is (row O)) (LL.makes O po 𝓤 H A) g _ was′ $ fjoin ! $
-            owned ! (row T) (Is (row T)) (LL.makes T pl 𝓤 H A) h _ was $ fjoin ! $ nothing ! $ join ! $ frame ! $ done !
-
         abbrev Said : D .Denot → Type 0
         Said r = r ≡ spec h g w
-
-        said : (r : D .Denot) → ent 𝓤 (ensured 𝓤 H A step-ended (step-clauses 𝓤) tt (h, (g, (w, tt))) tt r) (fact 𝓤 (Said r))
-        said r = exE 𝓤 _ (λ ws. snd∗ 𝓤 (sem 𝓤 H A (lasts step-ended tt (h, (g, (w, tt))) ws)) (fact 𝓤 (Said r)))
 
         exits : (r : D .Denot) → Said r → Is R (pr .answer r) (N .val (pr .answer r) ∷ []) → ent 𝓤 (⋆ 𝓤 H A (‵ (fobs γ (row T .coded .code (pr .state r))) ∷ ‵ (fbor κ (Body (mem (row T)) b o γ)) ∷ ‵ (flft κ q) ∷ ‵ (fobs γ′ (row O .coded .code (pr .other r))) ∷ ‵ (fbor κ′ (Body (mem (row O)) b′ o′ γ′)) ∷ ‵ (flft κ′ q′) ∷ [])) (Post (N .val (pr .answer r)))
         exits r e ga =
@@ -124,10 +105,10 @@ module _ (T : Declared) (L : LL.Laws T) (pl : Plains (fields T)) (O : Declared) 
               -- [the second's cell, open borrow, obs, auth; the state's; true; what the argument owns; _6 at 10; …; _5; …; _4; …; _3; …; _2; …; _1; …; room for _0; …]
               assigns ! (of-opd ! (load ! (from ! (hop ! (look ! 20 refl) (stop !))) (look-raw ! 4 refl))) (from ! (stop !)) (init ! 12 refl (LL.lawful T L 𝓤 H A W .typed h _ was .0)) $
               assigns ! (of-opd ! (load ! (from ! (hop ! (look ! 18 refl) (stop !))) (look-raw ! 0 refl))) (from ! (stop !)) (init ! 10 refl (LL.lawful O K 𝓤 H A W .typed g _ was′ .0)) $
-              use0 W (raw (StepC 𝓤 H A .pre to)) (asks was was′) $
-              calls-at ! fm (StepC 𝓤 H A) known to (and-then ! (load ! (from ! (stop !)) (look ! 13 refl)) (and-then ! (load ! (from ! (stop !)) (look ! 11 refl)) (and-then ! (load ! (from ! (stop !)) (look ! 17 refl)) (no-more !)))) (λ v.
-              use1 W (later (some (λ (r : D .Denot). (‵ ftrue ⊛ ‵ (D .own r (v ∷ []))) ⊛ raw (ensured 𝓤 H A step-ended (step-clauses 𝓤) tt (h, (g, (w, tt))) tt r)))) (id⊢ 𝓤 _) $ await ! tt $ pick ! (λ r.
-              split ! $ move ! (1 ∷ []) $ use1 W (raw (fact 𝓤 (Said r))) (said r) $ heard ! (Said r) (λ e. split ! $ drop ! $ facts ! D (Is D) (shows 𝓤 H A D) r (v ∷ []) (λ is.
+              use0 W (raw (StepC 𝓤 H A .pre (to2 T O P D spec 𝓤 H A h g w W L pl K po F))) (asks2 T O P D spec 𝓤 H A h g w W L pl K po F gw was was′) $
+              calls-at ! fm (StepC 𝓤 H A) known (to2 T O P D spec 𝓤 H A h g w W L pl K po F) (and-then ! (load ! (from ! (stop !)) (look ! 13 refl)) (and-then ! (load ! (from ! (stop !)) (look ! 11 refl)) (and-then ! (load ! (from ! (stop !)) (look ! 17 refl)) (no-more !)))) (λ v.
+              use1 W (later (some (λ (r : D .Denot). (‵ ftrue ⊛ ‵ (D .own r (v ∷ []))) ⊛ raw (Ensured2 T O P D spec 𝓤 H A h g w r)))) (id⊢ 𝓤 _) $ await ! tt $ pick ! (λ r.
+              split ! $ move ! (1 ∷ []) $ use1 W (raw (fact 𝓤 (Said r))) (said2 T O P D spec 𝓤 H A h g w r) $ heard ! (Said r) (λ e. split ! $ drop ! $ facts ! D (Is D) (shows 𝓤 H A D) r (v ∷ []) (λ is.
               -- the result stands in _4, and its machine value is spelled out
               land ! (from ! (stop !)) (init ! 14 refl (pr .typed 𝓤 H A W r v is)) $ rewrite ! 14 (λ (u : Val). ‵ (fat fullShare (τD ν) l₄ 0 u)) (pr .tells r v is) refl $
               assigns ! (of-opd ! (load ! (from ! (fld ! refl (stop !))) (look-in ! 14 (sub ! 2 refl (whole !))))) (from ! (hop ! (look ! 20 refl) (stop !))) (store-raw ! 4 refl (LL.lawful T L 𝓤 H A W .typed (pr .state r) _ (pr .state-is r v is) .0)) $
