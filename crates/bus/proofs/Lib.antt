@@ -16,6 +16,7 @@ pub mod SoundSteps
 pub mod SoundBuses
 pub mod AccessCases
 pub mod Refused
+pub mod RestoredBars
 pub mod SoundAccesses
 pub mod LookupExact
 pub mod SoundDeclared
