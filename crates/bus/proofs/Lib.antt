@@ -22,3 +22,4 @@ pub mod LookupExact
 pub mod SoundDeclared
 pub mod Devices
 pub mod OwnPlaces
+pub mod RunCase

@@ -21,3 +21,4 @@ pub mod Outcomes
 pub mod Answers
 pub mod Runs
 pub mod Examples
+pub mod SameBars
