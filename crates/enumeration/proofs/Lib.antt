@@ -11,3 +11,4 @@ pub mod Truths
 pub mod Follows
 pub mod Histories
 pub mod Demand
+pub mod Premises

@@ -22,3 +22,4 @@ pub mod Answers
 pub mod Runs
 pub mod Examples
 pub mod SameBars
+pub mod OneAutomatic
