@@ -16,8 +16,10 @@ pub mod SoundSteps
 pub mod SoundBuses
 pub mod AccessCases
 pub mod Refused
+pub mod RestoredBars
 pub mod SoundAccesses
 pub mod LookupExact
 pub mod SoundDeclared
 pub mod Devices
 pub mod OwnPlaces
+pub mod RunCase

@@ -2,7 +2,7 @@
 use Prim.Native.Nat.{ℕ, _<_, _≤_}
 use mathlib.Core.Bool.{true, false}
 use mathlib.Core.Logic.{⊎-elim}
-use mathlib.Core.Path.{_≡_, refl, sym, _∙_}
+use mathlib.Core.Path.{_≡_, refl, _∙_}
 use native.Mathlib.Omega.{arith}
 use borrow.Author.Tests.{ne-eqb}
 use lib.ListN.{getD}
@@ -12,7 +12,6 @@ use Rattle.bar.specs.Range.{range, meets}
 use Rattle.bar.specs.declared.range.Range.{Range}
 use Rattle.bar.proofs.Ranges.{empty-second}
 use Rattle.config.specs.State.{barAt}
-use Rattle.config.proofs.Kept.{reset-state}
 use Rattle.placement.specs.Keys.{keyCount}
 use Rattle.placement.specs.Place.{noRange}
 use Rattle.placement.proofs.Places.{Place, place-is}
@@ -23,7 +22,8 @@ use Rattle.bus.specs.Reset.{resetFirst, busResetOf}
 use Rattle.bus.specs.Sound.{Sound}
 use Rattle.bus.specs.declared.state.Bus.{Bus}
 use Rattle.bus.proofs.AccessCases.{access-by}
-use Rattle.bus.proofs.Restores.{reset-length, reset-at}
+use Rattle.bus.proofs.RestoredBars.{reset-function}
+use Rattle.bus.proofs.Restores.{reset-length}
 use Rattle.bus.proofs.SoundParts.{sound-count}
 use Rattle.bus.proofs.SoundRanges.{sound-no-range}
 use Rattle.bus.proofs.SoundBuses.{sound-write, sound-kept, sound-moved, sound-reset}
@@ -67,4 +67,4 @@ module _ (d : Declaration) (b : Bus) (s : Sound d b) where
   unfolding busResetOf
   sound-restored =
       sound-reset d b s (resetFirst (b .functions) (countOn b)) (reset-length (b .functions) (countOn b) ∙ s .room)
-      (λ k h. reset-at (b .functions) (countOn b) k (let r = s .room in let c = s .count in let f = s .few in omega arith) (rw (sound-count d b s) h) ∙ sym (reset-state (functionAt b k)))
+      (reset-function d b s)

@@ -7,3 +7,4 @@ pub mod Lookup
 pub mod Reset
 pub mod Sound
 pub mod Held
+pub mod Run

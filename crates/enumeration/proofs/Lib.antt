@@ -9,3 +9,6 @@ pub mod CapabilityLists
 pub mod TrueReports
 pub mod Truths
 pub mod Follows
+pub mod Histories
+pub mod Demand
+pub mod Premises

@@ -3,3 +3,4 @@ pub mod Enumerate
 pub mod Turn
 pub mod History
 pub mod Truth
+pub mod Premise

@@ -1,5 +1,5 @@
 -- Demand 3. "On a bus from an accepted file, after any accesses and resets, if no BAR of the declared function is showing its size, the enumeration of document 01 reports the declared identity, pin, slots, sizes, capability ids and offsets, and the addresses that memory lookup uses, and leaves those addresses as they were. So two functions with equal reports agree in all of these. A 4 GiB BAR counts as an empty slot."
--- proofs/Truths.antt proves `Demand`, proofs/Follows.antt what follows from it.
+-- proofs/Demand.antt proves `Demand` and what follows from it: `Agreement`, `Absence`, `Restoration`.
 use Prim.Native.Nat.{ℕ, _+_, _*_, _<_}
 use mathlib.Core.Bool.{false, _||_, cond}
 use mathlib.Core.List.{List, [], _∷_, _++_}
@@ -95,11 +95,20 @@ pub record Agree (f : Function) (s : FunctionState) (g : Function) (t : Function
   pub count : f .capabilities .count ≡ g .capabilities .count
   pub list : (i : ℕ) → i < f .capabilities .count → declaredListed f i ≡ declaredListed g i
 
+abbrev pub Agreement : Type 0
+Agreement = (file other : List ℕ) → Accepted file → Accepted other → (h g : History) (k j : ℕ) → k < declared file .count → j < declared other .count → Quiet (functionAt (ran (started file) h) k) → Quiet (functionAt (ran (started other) g) j) → enumerateOf (ran (started file) h) (declaredFunction (declared file) k .device) .report ≡ enumerateOf (ran (started other) g) (declaredFunction (declared other) j .device) .report → Agree (declaredFunction (declared file) k) (functionAt (ran (started file) h) k) (declaredFunction (declared other) j) (functionAt (ran (started other) g) j)
+
 -- an undeclared device is absent after every history
 abbrev pub Absent : Declaration → Bus → ℕ → Type 0
 Absent d b device = ((k : ℕ) → k < d .count → declaredFunction d k .device ≡ device → ⊥) → enumerateOf b device ≡ record { report = absentReport; bus = b }
+
+abbrev pub Absence : Type 0
+Absence = (file : List ℕ) → Accepted file → (h : History) (device : ℕ) → Absent (declared file) (ran (started file) h) device
 
 -- after a reset with no later access every BAR is where placement put it, and the report is that of the start
 pub record AsPlaced (file : List ℕ) (h : History) (k : ℕ) : Type 0 where
   pub address : (i : ℕ) → i < barCount → addressIn (functionAt (ran (started file) (h ++ (resets ∷ []))) k) i ≡ getD (placementIn (declared file) .addresses) (k * barCount + i) 0
   pub report : enumerateOf (ran (started file) (h ++ (resets ∷ []))) (declaredFunction (declared file) k .device) .report ≡ enumerateOf (started file) (declaredFunction (declared file) k .device) .report
+
+abbrev pub Restoration : Type 0
+Restoration = (file : List ℕ) → Accepted file → (h : History) (k : ℕ) → k < declared file .count → AsPlaced file h k

@@ -21,3 +21,5 @@ pub mod Outcomes
 pub mod Answers
 pub mod Runs
 pub mod Examples
+pub mod SameBars
+pub mod OneAutomatic
