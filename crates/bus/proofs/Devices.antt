@@ -1,11 +1,14 @@
 -- Devices of a sound bus: each declared function is found by its device, and no other device is found.
-use Prim.Native.Nat.{ℕ, _<_}
+use Prim.Native.Nat.{ℕ, _<_, _≤_}
+use mathlib.Core.Logic.{⊎-elim}
 use mathlib.Core.Path.{_≡_, sym, _∙_}
 use native.Mathlib.Omega.{arith}
 use borrow.Author.Tests.{eq-eqb, ne-eqb}
 use lib.Dec.{eqb}
+use lib.ListN.{List·getD-eq-default}
 use Rattle.word.proofs.Searches.{least-at, least-none}
-use Rattle.word.proofs.Tables.{filled-at}
+use Rattle.word.proofs.Tables.{filled-length, filled-at, filled-past}
+use Rattle.word.proofs.Tests.{below-or-not}
 use Rattle.address.specs.Layout.{configSpaceSize}
 use Rattle.address.specs.Check.{accessOf}
 use Rattle.address.specs.Limits.{functionRoom}
@@ -23,6 +26,15 @@ module _ (d : Declaration) (b : Bus) (s : Sound d b) where
   pub sound-device : (k : ℕ) → k < d .count → deviceAt b k ≡ declaredFunction d k .device
   unfolding devicesOf
   sound-device k h = rw (s .devices) (filled-at functionRoom (λ k. declaredFunction d k .device) 0 (d .count) k 0 (omega (arith, s .good .functions .few)) h)
+
+  -- past the last there is none
+  pub sound-no-device : (k : ℕ) → d .count ≤ k → deviceAt b k ≡ 0
+  unfolding devicesOf
+  sound-no-device k h =
+      rw (s .devices)
+      (⊎-elim (λ (l : k < functionRoom). filled-past functionRoom (λ k. declaredFunction d k .device) 0 (d .count) k 0 l h)
+      (λ (l : functionRoom ≤ k). List·getD-eq-default (devicesOf d) 0 {n = k} (rw (filled-length functionRoom (λ k. declaredFunction d k .device) 0 (d .count)) l))
+      (below-or-not k functionRoom))
 
   -- an earlier device is a lower one
   before-not : (j k : ℕ) → j < k → k < d .count → deviceAt b j ≡ declaredFunction d k .device → ⊥

@@ -17,8 +17,10 @@ pub mod SoundBuses
 pub mod AccessCases
 pub mod Refused
 pub mod RestoredBars
+pub mod AcceptExact
 pub mod SoundAccesses
 pub mod LookupExact
+pub mod ResetExact
 pub mod SoundDeclared
 pub mod Devices
 pub mod OwnPlaces

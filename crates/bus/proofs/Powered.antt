@@ -7,7 +7,7 @@ use native.Mathlib.Nat.{mod-lt}
 use native.Mathlib.Omega.{arith}
 use borrow.Author.Tests.{lt-ltb, le-ltb}
 use lib.ListN.{length, length-map, List·getD-map, List·getD-eq-default}
-use Rattle.word.proofs.Tables.{length-table, getD-table, filled-length, filled-at}
+use Rattle.word.proofs.Tables.{length-table, getD-table, filled-length, filled-at, filled-past}
 use Rattle.word.proofs.Tests.{below-or-not}
 use Rattle.address.specs.Layout.{configSpaceSize, barCount}
 use Rattle.address.specs.Limits.{functionRoom}
@@ -105,6 +105,17 @@ module _ (d : Declaration) (g : Good d) (addresses : List ℕ) where
   unfolding busOf functionsOf
   bus-function k h =
       filled-at functionRoom (λ k. functionStart (declaredFunction d k) addresses k) noFunctionState (d .count) k noFunctionState (omega (arith, g .functions .few)) h
+
+  blank-past : (k : ℕ) → k < functionRoom → d .count ≤ k → functionAt (busOf d addresses) k ≡ noFunctionState
+  unfolding busOf functionsOf
+  blank-past k l h = filled-past functionRoom (λ k. functionStart (declaredFunction d k) addresses k) noFunctionState (d .count) k noFunctionState l h
+
+  -- blanks past the last
+  pub bus-past : (k : ℕ) → d .count ≤ k → functionAt (busOf d addresses) k ≡ noFunctionState
+  bus-past k h =
+      ⊎-elim (λ (l : k < functionRoom). blank-past k l h)
+      (λ (l : functionRoom ≤ k). List·getD-eq-default (busOf d addresses .functions) noFunctionState {n = k} (rw bus-room l))
+      (below-or-not k functionRoom)
 
   pub bus-countOn : countOn (busOf d addresses) ≡ d .count
   bus-countOn = rw bus-count (omega (arith, g .functions .few))

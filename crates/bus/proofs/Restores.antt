@@ -1,5 +1,5 @@
 -- Functions restored one after the other.
-use Prim.Native.Nat.{ℕ, _+_, _<_}
+use Prim.Native.Nat.{ℕ, _+_, _<_, _≤_}
 use mathlib.Core.Bool.{cond}
 use mathlib.Core.List.{List}
 use mathlib.Core.Logic.{⊎-elim}
@@ -7,7 +7,7 @@ use mathlib.Core.Path.{_≡_, _∙_}
 use native.Mathlib.Omega.{arith}
 use borrow.Author.Tests.{lt-ltb, le-ltb}
 use lib.Dec.{ltb}
-use lib.ListN.{length, getD, set}
+use lib.ListN.{length, getD, set, List·getD-eq-default}
 use Rattle.word.proofs.Tests.{below-or-not, ltb-same}
 use Rattle.word.proofs.Tables.{length-table, table-ext, table-getD, table-set, getD-table}
 use Rattle.config.specs.Reset.{restored}
@@ -41,3 +41,11 @@ module _ (l : List FunctionState) where
   pub reset-at : (n k : ℕ) → k < length l → k < n → getD (resetFirst l n) k noFunctionState ≡ restored (getD l k noFunctionState)
   unfolding resetFirst
   reset-at n k h m = getD-table (length l) (after n) k noFunctionState h ∙ rw (lt-ltb k n m)
+
+  -- those past the first n stay
+  pub reset-past : (n k : ℕ) → n ≤ k → getD (resetFirst l n) k noFunctionState ≡ getD l k noFunctionState
+  unfolding resetFirst
+  reset-past n k h =
+      ⊎-elim (λ (m : k < length l). getD-table (length l) (after n) k noFunctionState m ∙ rw (le-ltb k n h))
+      (λ (m : length l ≤ k). rw (List·getD-eq-default (resetFirst l n) noFunctionState {n = k} (rw (reset-length n) m), List·getD-eq-default l noFunctionState {n = k} m))
+      (below-or-not k (length l))

@@ -1,12 +1,10 @@
 -- A sound bus stays sound through every write by device and every reset.
 use Prim.Native.Nat.{ℕ, _<_, _≤_}
-use mathlib.Core.Bool.{true, false}
+use mathlib.Core.Bool.{false}
 use mathlib.Core.Logic.{⊎-elim}
 use mathlib.Core.Path.{_≡_, refl, _∙_}
 use native.Mathlib.Omega.{arith}
-use borrow.Author.Tests.{ne-eqb}
 use lib.ListN.{getD}
-use Rattle.word.proofs.Tables.{getD-table}
 use Rattle.word.proofs.Tests.{below-or-not}
 use Rattle.bar.specs.Range.{range, meets}
 use Rattle.bar.specs.declared.range.Range.{Range}
@@ -14,29 +12,19 @@ use Rattle.bar.proofs.Ranges.{empty-second}
 use Rattle.config.specs.State.{barAt}
 use Rattle.placement.specs.Keys.{keyCount}
 use Rattle.placement.specs.Place.{noRange}
-use Rattle.placement.proofs.Places.{Place, place-is}
 use Rattle.declaration.specs.declared.answer.Declaration.{Declaration}
 use Rattle.bus.specs.Bus.{countOn, functionAt, rangeOn}
-use Rattle.bus.specs.Access.{keyOf, rangeBut, rangesBut, accepts, busWriteOf}
+use Rattle.bus.specs.Access.{keyOf, rangesBut, busWriteOf}
 use Rattle.bus.specs.Reset.{resetFirst, busResetOf}
 use Rattle.bus.specs.Sound.{Sound}
 use Rattle.bus.specs.declared.state.Bus.{Bus}
+use Rattle.bus.proofs.AcceptExact.{other-range, accepts-place}
 use Rattle.bus.proofs.AccessCases.{access-by}
 use Rattle.bus.proofs.RestoredBars.{reset-function}
-use Rattle.bus.proofs.Restores.{reset-length}
+use Rattle.bus.proofs.Restores.{reset-length, reset-past}
 use Rattle.bus.proofs.SoundParts.{sound-count}
 use Rattle.bus.proofs.SoundRanges.{sound-no-range}
 use Rattle.bus.proofs.SoundBuses.{sound-write, sound-kept, sound-moved, sound-reset}
-
--- the range at another key is among those that a candidate has to be clear of
-pub other-range : (b : Bus) (key n : ℕ) → n < keyCount → (n ≡ key → ⊥) → getD (rangesBut b key) n noRange ≡ rangeOn b n
-unfolding rangesBut rangeBut
-other-range b key n h q = getD-table keyCount (rangeBut b key) n noRange h ∙ rw (ne-eqb n key q)
-
--- an accepted candidate is a place among the others
-pub accepts-place : (b : Bus) (k i a : ℕ) → accepts b k i a ≡ true → Place (b .aperture) (barAt (functionAt b k .bars) i .plan .size) (rangesBut b (keyOf k i)) a
-unfolding accepts
-accepts-place b k i a e = place-is (b .aperture) (barAt (functionAt b k .bars) i .plan .size) (rangesBut b (keyOf k i)) a e
 
 module _ (d : Declaration) (b : Bus) (s : Sound d b) where
   -- past the last key there is no range to meet
@@ -68,3 +56,4 @@ module _ (d : Declaration) (b : Bus) (s : Sound d b) where
   sound-restored =
       sound-reset d b s (resetFirst (b .functions) (countOn b)) (reset-length (b .functions) (countOn b) ∙ s .room)
       (reset-function d b s)
+      (λ k h. reset-past (b .functions) (countOn b) k (rw (sound-count d b s) h) ∙ s .past k (rw (s .count) h))

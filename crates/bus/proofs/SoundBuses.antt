@@ -50,8 +50,8 @@ module _ (d : Declaration) (b : Bus) (s : Sound d b) where
     abbrev all : Bus
     all = record { aperture = b .aperture; devices = b .devices; functions = fs; count = b .count }
 
-    sound-all : length fs ≡ functionRoom → ((k : ℕ) → k < b .count → SoundFunction (startedFunction d k) (functionAt all k)) → Clear (b .aperture) (rangeOn all) → Sound d all
-    sound-all long each clear =
+    sound-all : length fs ≡ functionRoom → ((k : ℕ) → k < b .count → SoundFunction (startedFunction d k) (functionAt all k)) → ((k : ℕ) → b .count ≤ k → functionAt all k ≡ noFunctionState) → Clear (b .aperture) (rangeOn all) → Sound d all
+    sound-all long each blank clear =
         record {
           good = s .good;
           accepted = s .accepted;
@@ -63,6 +63,7 @@ module _ (d : Declaration) (b : Bus) (s : Sound d b) where
           most = s .most;
           room = long;
           functions = each;
+          past = blank;
           committed = clear;
         }
 
@@ -90,7 +91,7 @@ module _ (d : Declaration) (b : Bus) (s : Sound d b) where
       sound-with g c =
           sound-all (set (b .functions) k f) (length-set (b .functions) k f ∙ s .room)
           (λ j l. ⊎-elim (λ (q : j ≡ k). rw (q, function-here) g) (λ (q : j ≡ k → ⊥). rw (function-other j q) (s .functions j l)) (same-or-not j k))
-          c
+          (λ j l. function-other j (λ q. let n = s .count in omega arith) ∙ s .past j l) c
 
       -- where its BARs are where they were
       same-ranges : ((i : ℕ) → rangeOf (barAt (f .bars) i) ≡ rangeOf (barAt (functionAt b k .bars) i)) → (key : ℕ) → rangeOn (withFunction b k f) key ≡ rangeOn b key
@@ -157,7 +158,7 @@ module _ (d : Declaration) (b : Bus) (s : Sound d b) where
             (clear-moved (b .aperture) (rangeOn b) (rangeOn (withFunction b k g)) key (rw (s .aperture) (s .good .aperture .most)) (s .committed) moved-other (rw moved-here aligned) (rw moved-here within) (λ n o. rw moved-here (free n o)))
 
   -- every function reset
-  module _ (fs : List FunctionState) (long : length fs ≡ functionRoom) (each : (k : ℕ) → k < d .count → getD fs k noFunctionState ≡ resetDone (functionAt b k) .state) where
+  module _ (fs : List FunctionState) (long : length fs ≡ functionRoom) (each : (k : ℕ) → k < d .count → getD fs k noFunctionState ≡ resetDone (functionAt b k) .state) (blank : (k : ℕ) → d .count ≤ k → getD fs k noFunctionState ≡ noFunctionState) where
     reset-ranges : (key : ℕ) → rangeOn (all fs) key ≡ planOn b key
     unfolding rangeOn planOn
     reset-ranges key =
@@ -168,4 +169,4 @@ module _ (d : Declaration) (b : Bus) (s : Sound d b) where
     pub sound-reset : Sound d (all fs)
     sound-reset =
         sound-all fs long (λ k l. let h : k < d .count = rw (s .count) at l in rw (each k h) (reset-sound d (s .good) k (functionAt b k) (s .functions k l)))
-        (clear-same (b .aperture) (planOn b) (rangeOn (all fs)) reset-ranges (sound-planned d b s))
+        (λ k l. blank k (rw (s .count) at l)) (clear-same (b .aperture) (planOn b) (rangeOn (all fs)) reset-ranges (sound-planned d b s))

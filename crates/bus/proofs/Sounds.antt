@@ -27,7 +27,7 @@ use Rattle.bus.specs.Start.{declaredFunction, declaredBars, placementIn,
 use Rattle.bus.specs.Sound.{startedFunction, startedBus, Clear, SoundFunction, Sound, SoundStart}
 use Rattle.bus.specs.Outcome.{declarationOf}
 use Rattle.bus.proofs.Outcomes.{start-accepted}
-use Rattle.bus.proofs.Powered.{start-live, start-long, start-bytes, start-masks, start-six, start-powered, bus-count, bus-aperture, bus-devices, bus-room, bus-device, bus-function, bus-range, bus-no-range}
+use Rattle.bus.proofs.Powered.{start-live, start-long, start-bytes, start-masks, start-six, start-powered, bus-count, bus-aperture, bus-devices, bus-room, bus-device, bus-function, bus-past, bus-range, bus-no-range}
 
 module _ (d : Declaration) (g : Good d) (e : placementIn d .answer ≡ placement.Placed) where
   abbrev addresses : List ℕ
@@ -80,6 +80,7 @@ module _ (d : Declaration) (g : Good d) (e : placementIn d .answer ≡ placement
         most = λ k l. let m : k < d .count = rw n at l in rw (bus-device d g addresses k m) (g .functions .each k .device);
         room = bus-room d g addresses;
         functions = λ k l. let m : k < d .count = rw n at l in rw (bus-function d g addresses k m) (function-sound k);
+        past = λ k l. bus-past d g addresses k (rw n at l);
         committed = subst (λ (a : Aperture). Clear a (rangeOn (startedBus d))) (sym (bus-aperture d g addresses)) started-clear;
       }
 

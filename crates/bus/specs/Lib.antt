@@ -7,4 +7,6 @@ pub mod Lookup
 pub mod Reset
 pub mod Sound
 pub mod Held
+pub mod Spent
+pub mod Acceptable
 pub mod Run

@@ -19,7 +19,7 @@ use Rattle.placement.specs.declared.answer.PlacementAnswer.the-variants as plac
 use Rattle.declaration.specs.Good.{Good}
 use Rattle.declaration.specs.Row.{mostDevice}
 use Rattle.declaration.specs.declared.answer.Declaration.{Declaration}
-use Rattle.bus.specs.Bus.{countOn, deviceAt, functionAt, barOn, rangeOn}
+use Rattle.bus.specs.Bus.{noFunctionState, countOn, deviceAt, functionAt, barOn, rangeOn}
 use Rattle.bus.specs.Start.{declaredFunction, functionStart, devicesOf, busOf, placementIn}
 use Rattle.bus.specs.declared.state.Bus.{Bus}
 
@@ -50,7 +50,7 @@ pub record SoundFunction (start f : FunctionState) : Type 0 where
   pub unmasked : (j i : ℕ) → i < 8 → bit (getD (f .mask) j 0) i ≡ 0 → bit (getD (f .live) j 0) i ≡ bit (getD (f .«power_on») j 0) i
   pub six : length (f .bars) ≡ barCount
 
--- a bus of a declaration: its aperture and devices, each function by what was declared, and every BAR's committed range clear
+-- a bus of a declaration: its aperture and devices, each function by what was declared, blanks past the last, and every BAR's committed range clear
 pub record Sound (d : Declaration) (b : Bus) : Type 0 where
   pub good : Good d
   pub accepted : placementIn d .answer ≡ placement.Placed
@@ -62,6 +62,7 @@ pub record Sound (d : Declaration) (b : Bus) : Type 0 where
   pub most : (k : ℕ) → k < b .count → deviceAt b k ≤ mostDevice
   pub room : length (b .functions) ≡ functionRoom
   pub functions : (k : ℕ) → k < b .count → SoundFunction (startedFunction d k) (functionAt b k)
+  pub past : (k : ℕ) → b .count ≤ k → functionAt b k ≡ noFunctionState
   pub committed : Clear (b .aperture) (rangeOn b)
 
 -- a function at power-on: live image and power-on image are one, every BAR is where it was placed, nothing probes, revision 0
