@@ -1,5 +1,5 @@
 /*
- * Voussglen: config space, memory BARs, capabilities and placement of virtual PCI functions. C11, x86-64.
+ * Voussglen: config space, memory BARs, capabilities and placement of virtual PCI functions. C11, x86-64, System V ABI.
  *
  *     static vg_bus bus;
  *     static vg_snapshot body;
@@ -13,7 +13,9 @@
  * A vg_bus comes from vg_start, or is all zero bytes, which is the empty bus: no aperture and no functions.
  * Its fields may be read between calls; only the functions below change them. A copy of one is a bus of its own.
  * No pointer may be null, also where a length is 0, and what one points to may not overlap what another does.
- * There are no locks: one call at a time on a bus. Calls on different buses may run at once.
+ * There are no locks. vg_read and vg_lookup only read the bus and may run at once with each other;
+ * vg_start, vg_write, vg_reset and vg_enumerate want it for themselves. A vg_snapshot serves one call at a time:
+ * every vg_read and vg_write writes it, if only with what it held. Calls on different buses may run at once.
  * Every question has an answer: a bad one is refused by number. A bool is 0 or 1. Padding has no meaning.
  */
 #ifndef VOUSSGLEN_H
@@ -51,7 +53,7 @@ enum {
     VG_OUTSIDE_APERTURE = 15,   /* D, slot: fixed range outside the aperture or past 64 bits */
     VG_OVERLAPS_PLACED = 16,    /* D, slot: fixed range overlaps one placed before */
     VG_NO_PLACE = 17,           /* D, slot: no free place for an automatic BAR */
-    VG_BAD_ACCESS = 18,         /* offset past 0xff, width not 1, 2, 4 (lookup: or 8), offset not a multiple of width */
+    VG_BAD_ACCESS = 18,         /* offset past 0xff or no multiple of width, width not 1, 2, 4; lookup: not 1, 2, 4, 8 */
     VG_BAD_TOUCH = 19,          /* an access touches an effect but is not inside it, or its direction is not allowed */
     VG_REVISION_EXHAUSTED = 20, /* device: a revision counter is at its largest */
 };
@@ -139,7 +141,7 @@ typedef struct vg_bus {
     size_t count;                              /* how many functions there are */
 } vg_bus;
 
-/* The buffer for a body: an answer of VG_KIND_EFFECT fills it with the capability's live body; no other changes it. */
+/* The buffer for a body: an answer of VG_KIND_EFFECT fills it with the capability's live body; else it holds what it held. */
 typedef struct vg_snapshot {
     uint8_t length;                 /* bytes of the body */
     uint8_t bytes[VG_LONGEST_BODY]; /* the body; zero past it */
@@ -204,7 +206,7 @@ typedef struct vg_reset_result {
 
 typedef struct vg_start_result {
     uint8_t refusal; /* 0 to 17 */
-    bool in_file;    /* whether the place is `offset`; else it is `device` and `index` */
+    bool in_file;    /* of a refusal: whether the place is `offset`; else it is `device` and `index` */
     uint8_t device;  /* refusals 9 and 12 to 17 */
     size_t offset;   /* refusals 1 to 8, 10 and 11: where the field starts in the file */
     size_t index;    /* of the config byte (9), the capability (12, 13) or the slot (14 to 17) */
@@ -244,7 +246,7 @@ typedef struct vg_report {
     size_t list_count;
 } vg_report;
 
-/* Puts the bus that a declaration file of `length` bytes declares into `bus`; a refused file leaves the empty bus. */
+/* Puts the bus that a declaration file of `length` bytes declares into `bus`, in place of what it held; the empty one if refused. */
 vg_start_result vg_start(vg_bus *bus, const uint8_t *file, size_t length);
 
 /* Reads config space. */

@@ -411,6 +411,43 @@ static void enumerates(void)
     CHECK(same_bus(&bus, &before));
 }
 
+/* The aperture 0xffff0000 to 4 GiB; device 2 with an automatic BAR of 0x1000 in slot 5. */
+static const uint8_t at_the_end[] = {
+    1, 16, 0, 0, 0, 0xff, 0xff, 0, 0, 0, 0, 0, 0, 0, 0, 1, 0, 0, 0,
+    2, 13, 0, 2, 0xf4, 0x1a, 1, 0, 0xf4, 0x1a, 1, 0, 0, 2, 0, 0,
+    4, 18, 0, 5, 0, 0, 0x10, 0, 0, 0, 0, 0, 0, 0, 0, 0, 0, 0, 0, 0, 0,
+};
+
+/* Begun while a BAR shows its size, an enumeration takes the mask for the address, and here moves the BAR there. */
+static void enumerates_while_probing(void)
+{
+    CHECK(accepted(at_the_end, sizeof at_the_end));
+    vg_report r = vg_enumerate(&bus, 2);
+    CHECK(r.present && no_list(&r, 0) && slot_is(r.slots[5], 0x1000, 0xffff0000) && slot_is(r.slots[0], 0, 0));
+    CHECK(writes(2, 0x24, 4, 0xffffffff, VG_KIND_PROBING, 5, 0));
+    r = vg_enumerate(&bus, 2);
+    CHECK(slot_is(r.slots[5], 0x1000, 0xfffff000));
+    CHECK(bus.functions[0].bars[5].address == 0xfffff000 && !bus.functions[0].bars[5].probing);
+}
+
+/* All 4 GiB as one BAR: its mask is 0, so it counts as an empty slot, and it stays where it is. */
+static void four_gib(void)
+{
+    static const uint8_t file[] = {
+        1, 16, 0, 0, 0, 0, 0, 0, 0, 0, 0, 0, 0, 0, 0, 1, 0, 0, 0,
+        2, 13, 0, 2, 0xf4, 0x1a, 1, 0, 0xf4, 0x1a, 1, 0, 0, 2, 0, 0,
+        4, 18, 0, 0, 0, 0, 0, 0, 0, 1, 0, 0, 0, 0, 0, 0, 0, 0, 0, 0, 0,
+    };
+    CHECK(accepted(file, sizeof file));
+    CHECK(writes(2, 0x04, 2, 2, VG_KIND_STORED, 0, 0));
+    CHECK(hits(0xfffffff8, 8, 2, 0, 0xfffffff8));
+    CHECK(misses(0xfffffffc, 8));
+    const vg_bus before = bus;
+    vg_report r = vg_enumerate(&bus, 2);
+    CHECK(r.present && no_slots(&r, 0));
+    CHECK(same_bus(&bus, &before));
+}
+
 /* An aperture; device 1 with pin 2 and line 9, a capability with two effects at 0x40, one with no body at 0x48. */
 static const uint8_t with_effects[] = {
     1, 16, 0, 0, 0, 0, 0x80, 0, 0, 0, 0, 0, 0, 1, 0x80, 0, 0, 0, 0,
@@ -585,6 +622,8 @@ int main(int count, char **words)
     probe_and_relocate();
     reset_and_exhaust();
     enumerates();
+    enumerates_while_probing();
+    four_gib();
     effects();
     refusals(file, length);
 

@@ -20,7 +20,7 @@ use Rattle.declaration.specs.Blank.{emptyContents, emptyFunction, nothingSoFar}
 use Rattle.declaration.specs.Finished.{opened, noneFinished, finishedWith, finishedSoFar}
 use Rattle.declaration.specs.Frame.{frameOf}
 use Rattle.declaration.specs.Reading.{readField, readFields}
-use Rattle.declaration.specs.Row.{deviceUsed}
+use Rattle.declaration.specs.Standing.{deviceUsed}
 use Rattle.declaration.specs.Said.{saidBy, saidOf}
 use Rattle.declaration.specs.Tag.{lengthAllowed, bodyLong}
 use Rattle.declaration.specs.Take.{takenSaid}

@@ -17,7 +17,7 @@ use Rattle.config.specs.declared.state.FunctionState.{FunctionState}
 use Rattle.placement.specs.Place.{noRange}
 use Rattle.placement.specs.declared.answer.PlacementAnswer.the-variants as placement
 use Rattle.declaration.specs.Good.{Good}
-use Rattle.declaration.specs.Row.{mostDevice}
+use Rattle.declaration.specs.Standing.{mostDevice}
 use Rattle.declaration.specs.declared.answer.Declaration.{Declaration}
 use Rattle.bus.specs.Bus.{noFunctionState, countOn, deviceAt, functionAt, barOn, rangeOn}
 use Rattle.bus.specs.Start.{declaredFunction, functionStart, devicesOf, busOf, placementIn}

@@ -8,7 +8,7 @@ use lib.Dec.{eqb}
 use lib.ListN.{length, getD, set}
 use lib.Seq.{getD-set-same, getD-set-other}
 use Rattle.word.proofs.Searches.{any-found, any-has}
-use Rattle.declaration.specs.Row.{deviceUsed}
+use Rattle.declaration.specs.Standing.{deviceUsed}
 use Rattle.declaration.specs.declared.so_far.SoFar.{SoFar}
 
 pub used-same : (s t : SoFar) (x : ℕ) → t .devices ≡ s .devices → t .count ≡ s .count → deviceUsed s x ≡ true → deviceUsed t x ≡ true

@@ -32,7 +32,7 @@ use Rattle.config.specs.declared.function.Contents.{Contents}
 use Rattle.config.specs.declared.function.Identity.{Identity}
 use Rattle.declaration.specs.Blank.{emptyContents, emptyFunction, noIdentity, noFunction}
 use Rattle.declaration.specs.Good.{Bytes, Within, GoodIdentity, absent, pinned, GoodByte, GoodContents, GoodSlot, empty, used, GoodCapabilities, GoodFunction}
-use Rattle.declaration.specs.Row.{mostDevice}
+use Rattle.declaration.specs.Standing.{mostDevice}
 use Rattle.declaration.specs.Take.{withIntx, withByte, bodyPlace, bodyPart, maskPart, bodiesWith}
 use Rattle.declaration.proofs.Everywhere.{blank-at, table-blank-at, each-table, each-set, past-set, part-bytes, laid-bytes}
 use Rattle.declaration.proofs.Masked.{Latest}

@@ -25,7 +25,8 @@ use Rattle.config.specs.declared.function.Identity.{Identity}
 use Rattle.declaration.specs.Blank.{emptyFunction, noMask}
 use Rattle.declaration.specs.Exactly.{NoneFails, allChecks, saidAt}
 use Rattle.declaration.specs.Good.{Bytes, Within, GoodIdentity, GoodFunction}
-use Rattle.declaration.specs.Row.{mostDevice, hasFunction, hasCapability, deviceUsed, slotUsed, isLongBody, isBadForm, isOutOfOrder, isAboveLimit, isBadDeviceOrSlot, isAbsentVendor, isBadSize, isBadAperture, isBadEffect}
+use Rattle.declaration.specs.Standing.{mostDevice, hasFunction, hasCapability, deviceUsed, slotUsed}
+use Rattle.declaration.specs.Row.{isLongBody, isBadForm, isOutOfOrder, isAboveLimit, isBadDeviceOrSlot, isAbsentVendor, isBadSize, isBadAperture, isBadEffect}
 use Rattle.declaration.specs.Said.{byteIn, identityIn, saidOf}
 use Rattle.declaration.specs.Tag.{capabilityTag, lengthAllowed, capabilityBody}
 use Rattle.declaration.specs.Take.{maskPart, withField}

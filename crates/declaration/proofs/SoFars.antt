@@ -12,7 +12,7 @@ use Rattle.declaration.specs.Blank.{noIdentity, noMask, nothingSoFar}
 use Rattle.declaration.specs.Finished.{finishedAfter}
 use Rattle.declaration.specs.Finished.{functionAt, noneFinished, finishedWith, finishedSoFar}
 use Rattle.declaration.specs.Good.{GoodAperture, GoodFunction, GoodFunctions}
-use Rattle.declaration.specs.Row.{deviceUsed}
+use Rattle.declaration.specs.Standing.{deviceUsed}
 use Rattle.declaration.specs.declared.finished.Finished.{Finished}
 use Rattle.declaration.specs.declared.so_far.SoFar.{SoFar}
 use Rattle.declaration.proofs.Devices.{used-same, used-kept}

@@ -20,7 +20,7 @@ use Rattle.capability.specs.Size.{bodyMost}
 use Rattle.capability.specs.BadEffect.{effectBad}
 use Rattle.capability.specs.declared.effect.EffectAccess.{EffectAccess}
 use Rattle.config.specs.declared.function.Identity.{Identity}
-use Rattle.declaration.specs.Row.{isPresent, slotUsed, deviceBad}
+use Rattle.declaration.specs.Standing.{isPresent, slotUsed, deviceBad}
 use Rattle.declaration.specs.Take.{withField, taken, takenSaid}
 use Rattle.declaration.specs.declared.said.Said.the-variants as said
 use Rattle.declaration.specs.declared.so_far.SoFar.{SoFar}

@@ -11,7 +11,7 @@ use lib.ListN.{getD}
 use Rattle.word.specs.Search.{anyBelow, allBelow}
 use Rattle.word.proofs.Tests.{both, never}
 use Rattle.word.proofs.Searches.{any-none, any-more, any-found, all-each, each-all}
-use Rattle.declaration.specs.Row.{deviceUsed}
+use Rattle.declaration.specs.Standing.{deviceUsed}
 use Rattle.declaration.specs.declared.so_far.SoFar.{SoFar}
 
 -- the device at index k is d

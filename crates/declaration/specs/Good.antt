@@ -29,7 +29,7 @@ use Rattle.config.specs.declared.function.Intx.{Intx}
 use Rattle.config.specs.declared.function.Intx.the-variants as intx
 use Rattle.declaration.specs.Blank.{noFunction}
 use Rattle.declaration.specs.Exactly.{Faultless}
-use Rattle.declaration.specs.Row.{mostDevice}
+use Rattle.declaration.specs.Standing.{mostDevice}
 use Rattle.declaration.specs.declared.answer.Declaration.{Declaration}
 
 -- a list of bytes, as a file is

@@ -4,6 +4,7 @@ pub mod Tag
 pub mod Frame
 pub mod Said
 pub mod Blank
+pub mod Standing
 pub mod Row
 pub mod Take
 pub mod Finished

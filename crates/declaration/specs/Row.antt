@@ -3,51 +3,19 @@ use Prim.Native.Nat.{ℕ}
 use mathlib.Core.Bool.{Bool, true, false, not, _&&_, _||_}
 use mathlib.Core.List.{List, [], _∷_}
 use lib.Dec.{ltb, leb, eqb}
-use lib.ListN.{getD}
 use Rattle.refusal.specs.Number as number
-use Rattle.word.specs.Search.{anyBelow, allBelow}
+use Rattle.word.specs.Search.{allBelow}
 use Rattle.address.specs.Layout.{barCount, absentVendorId}
 use Rattle.address.specs.Limits.{Limits}
 use Rattle.bar.specs.Range.{fourGib, apertureOk}
-use Rattle.bar.specs.Bar.{noBar, sizeOk}
+use Rattle.bar.specs.Bar.{sizeOk}
 use Rattle.capability.specs.Size.{tooLong}
 use Rattle.capability.specs.BadEffect.{effectBad}
-use Rattle.config.specs.declared.function.Intx.{Intx}
-use Rattle.config.specs.declared.function.Intx.the-variants.{Absent, Pin}
-use Rattle.config.specs.declared.function.Function.{Function}
 use Rattle.declaration.specs.Check.{Check, _when_}
+use Rattle.declaration.specs.Standing.{hasFunction, hasCapability, hasIntx, slotUsed, deviceBad}
 use Rattle.declaration.specs.declared.said.Said.{Said}
 use Rattle.declaration.specs.declared.said.Said.the-variants.{Aperture, Function as NewFunction, Intx as NewIntx, Bar, ConfigByte, Capability, Effect, Bad}
 use Rattle.declaration.specs.declared.so_far.SoFar.{SoFar}
-
--- whether there is a latest function, whether it has a capability, an INTx
-abbrev pub hasFunction : SoFar → Bool
-hasFunction s = ltb 0 (s .count)
-
-abbrev pub hasCapability : SoFar → Bool
-hasCapability s = ltb 0 (s .function .capabilities .count)
-
-abbrev pub isPresent : Intx → Bool
-isPresent Absent = false
-isPresent (Pin pin line) = true
-
-abbrev pub hasIntx : SoFar → Bool
-hasIntx s = isPresent (s .function .contents .intx)
-
--- whether a slot of a function has a BAR, and whether a device is declared
-abbrev pub slotUsed : Function → ℕ → Bool
-slotUsed f k = ltb 0 (getD (f .bars) k noBar .size)
-
-unfoldable pub deviceUsed : SoFar → ℕ → Bool
-deviceUsed s d = anyBelow (λ k. eqb (getD (s .devices) k 0) d) (s .count)
-
--- the highest device number
-abbrev pub mostDevice : ℕ
-mostDevice = 31
-
--- "device above 31 or declared twice"
-abbrev pub deviceBad : SoFar → ℕ → Bool
-deviceBad s d = ltb mostDevice d || deviceUsed s d
 
 -- 10: "capability body above 253 bytes"
 abbrev pub isLongBody : Said → Bool

@@ -3,7 +3,7 @@ ghost use mathlib.Core.List.{[]};
 ghost use mathlib.Core.Path.{_≡_};
 ghost use Rattle.address.specs.Limits.{limits, functionRoom};
 ghost use Prim.Native.Nat.{_≤_};
-ghost use Rattle.declaration.specs.Row.{deviceUsed, deviceBad};
+ghost use Rattle.declaration.specs.Standing.{deviceUsed, deviceBad};
 ghost use Rattle.declaration.specs.Take.{takenSaid};
 use crate::said::Said;
 use crate::so_far::SoFar;

@@ -4,7 +4,7 @@ ghost use mathlib.Core.Path.{_≡_};
 ghost use Rattle.word.specs.Search.{allBelow};
 ghost use Rattle.address.specs.Layout.{barCount};
 ghost use Rattle.address.specs.Limits.{limits};
-ghost use Rattle.declaration.specs.Row.{isPresent, slotUsed};
+ghost use Rattle.declaration.specs.Standing.{isPresent, slotUsed};
 ghost use Rattle.declaration.specs.Take.{withFunction, takenSaid};
 use crate::said::Said;
 use crate::so_far::SoFar;

@@ -52,7 +52,7 @@ use Rattle.declaration.specs.Finished.{opened, noneFinished, finishedWith, fini
 use Rattle.declaration.specs.Frame.{frameOf}
 use Rattle.declaration.specs.Good.{Bytes}
 use Rattle.declaration.specs.Reading.{readField, readFields}
-use Rattle.declaration.specs.Row.{deviceUsed}
+use Rattle.declaration.specs.Standing.{deviceUsed}
 use Rattle.declaration.specs.Said.{saidBy, saidOf}
 use Rattle.declaration.specs.Tag.{lengthAllowed, bodyLong}
 use Rattle.declaration.specs.Take.{takenSaid}

@@ -1,7 +1,7 @@
 //! Virtual PCI functions on a bus: config space, memory BARs, capabilities and placement, over a proved library.
 //!
 //! A [`Bus`] starts from the bytes of a declaration file and answers a guest's accesses.
-//! Every question has an answer; a bad one is a [`Refusal`] with document 01's number.
+//! Every question has an answer; a bad one is a [`Refusal`] with a number, 1 to 20; `include/voussglen.h` has the table.
 //! [`raw`] has the library itself, for a caller that brings its own memory.
 //!
 //! ```

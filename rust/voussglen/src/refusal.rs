@@ -1,4 +1,4 @@
-//! Refusals by document 01's numbers.
+//! Refusals by number; `include/voussglen.h` has the same table.
 
 use std::{error, fmt};
 
@@ -52,10 +52,10 @@ const GIVEN_WHEN: [&str; 20] = [
 ];
 
 impl Refusal {
-    /// Document 01's words for the number.
+    /// What the number says.
     pub fn words(&self) -> &'static str {
         let words = usize::from(self.number).checked_sub(1).and_then(|at| GIVEN_WHEN.get(at));
-        words.copied().unwrap_or("no refusal of document 01")
+        words.copied().unwrap_or("no refusal")
     }
 }
 

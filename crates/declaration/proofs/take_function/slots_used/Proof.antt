@@ -7,7 +7,7 @@ use borrow.Author.Tests.{not-true, not-false}
 use borrow.Author.Needs.{needs}
 use Rattle.word.specs.Search.{allBelow}
 use Rattle.address.specs.Layout.{barCount}
-use Rattle.declaration.specs.Row.{slotUsed}
+use Rattle.declaration.specs.Standing.{slotUsed}
 use Rattle.declaration.proofs.Used.{all-none, all-more, all-not}
 use Rattle.declaration.proofs.take_function.slots_used.Statement.{statement}
 use Rattle.declaration.proofs.take_function.slots_used.Tie as tie

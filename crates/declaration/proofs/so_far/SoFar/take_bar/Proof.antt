@@ -10,7 +10,7 @@ use Rattle.address.specs.Kinds.{slot, indexOf}
 use Rattle.address.proofs.Slots.{slot-is, index-is}
 use Rattle.address.specs.Limits.{limits}
 use Rattle.bar.proofs.Sizes.{size-ok, bar-is}
-use Rattle.declaration.specs.Row.{slotUsed}
+use Rattle.declaration.specs.Standing.{slotUsed}
 use Rattle.declaration.proofs.Takings.{bar-early, bar-above, bar-no-slot, bar-used, bar-bad-size, bar-taken}
 use Rattle.declaration.proofs.Made.{slot-none, bar-none}
 use Rattle.declaration.proofs.so_far.SoFar.take_bar.Statement.{statement}
