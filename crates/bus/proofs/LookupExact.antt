@@ -2,7 +2,7 @@
 use Prim.Native.Nat.{ℕ, _+_, _-_, _/_, _%_, _<_, _≤_}
 use mathlib.Core.Bool.{true, false, cond}
 use mathlib.Core.Logic.{⊎-elim}
-use mathlib.Core.Path.{_≡_, refl}
+use mathlib.Core.Path.{_≡_}
 use native.Mathlib.Nat.{mod-lt}
 use native.Mathlib.Omega.{arith}
 use borrow.Author.Tests.{le-leb}
@@ -15,7 +15,6 @@ use Rattle.address.specs.Layout.{barCount}
 use Rattle.bar.specs.Range.{endOf}
 use Rattle.bar.specs.State.{rangeOf}
 use Rattle.bar.proofs.Ranges.{In, common-meets}
-use Rattle.config.specs.State.{barAt}
 use Rattle.placement.specs.Keys.{keyCount}
 use Rattle.declaration.specs.declared.answer.Declaration.{Declaration}
 use Rattle.bus.specs.Bus.{countOn, deviceAt, functionAt}
@@ -129,15 +128,11 @@ module _ (d : Declaration) (b : Bus) (s : Sound d b) where
   looked-lookup a w r (miss e n) = none-miss b a w e n
   looked-lookup a w r (bad-width e) = lookup-width b a w e
 
-  -- the first byte of a BAR is hit exactly while its function decodes
-  pub lookup-first : (k i : ℕ) → k < d .count → i < barCount → 0 < barAt (functionAt b k .bars) i .plan .size → lookupOf b (barAt (functionAt b k .bars) i .address) 1 ≡ cond (decodes (functionAt b k)) (Hit (deviceAt b k) i 0) Miss
-  unfolding widthOk
-  lookup-first k i h l z =
-      let a = barAt (functionAt b k .bars) i .address in
+  -- a whole access in a BAR is hit, with its offset there, exactly while the BAR's function decodes
+  pub lookup-within : (k i : ℕ) → k < d .count → i < barCount → (a w : ℕ) → widthOk mostLookup w ≡ true → barIn b k i .address ≤ a → a + w ≤ endOf (rangeOf (barIn b k i)) → lookupOf b a w ≡ cond (decodes (functionAt b k)) (Hit (deviceAt b k) i (a - barIn b k i .address)) Miss
+  lookup-within k i h l a w e f g =
       let n : k < countOn b = rw (sound-count d b s) h in
-      ⊎-elim (λ (t : decodes (functionAt b k) ≡ true).
-      let o : a - a ≡ 0 = omega arith in
-      rw (t, held-hit a 1 refl k i (record { there = n; slot = l; decoding = t; from = omega arith; to = omega arith }), o))
+      ⊎-elim (λ (t : decodes (functionAt b k) ≡ true). rw (t, held-hit a w e k i (record { there = n; slot = l; decoding = t; from = f; to = g })))
       (λ (t : decodes (functionAt b k) ≡ false).
-      rw (t, none-miss b a 1 refl (λ j g p. let q = range-one a j g k i (p .there) (p .slot) n l (held-in a 1 refl j g p) (record { from = omega arith; below = omega arith }) in both (rw (q .0) at (p .decoding)) t)))
+      rw (t, none-miss b a w e (λ j m p. let q = range-one a j m k i (p .there) (p .slot) n l (held-in a w e j m p) (record { from = f; below = omega (arith, width-pos mostLookup w e) }) in both (rw (q .0) at (p .decoding)) t)))
       (true-or-false (decodes (functionAt b k)))

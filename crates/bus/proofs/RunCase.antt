@@ -1,5 +1,5 @@
 -- The Run case: the file is read, its BARs are those of placement's example, and the bus has them there.
-use mathlib.Core.List.{[], _∷_}
+use mathlib.Core.List.{_∷_}
 use mathlib.Core.Path.{_≡_, refl}
 use lib.ListN.{replicate}
 use Rattle.word.specs.Number.{number, readAt}
@@ -51,10 +51,11 @@ said = record { answer = refl; aperture = refl; count = refl; devices = refl; ba
 placed : placementIn declaration ≡ allPlaced example.runAddresses
 placed = rw (said .aperture) (same-bars example.runAperture (declaredBars declaration) example.runBars example.runAddresses (said .bars) run)
 
-started : startOf limits runFile ≡ record { answer = answer.Accepted; bus = busOf declaration example.runAddresses }
+-- so the bus is that of its declaration, with those addresses
+pub run-started : startOf limits runFile ≡ record { answer = answer.Accepted; bus = busOf declaration example.runAddresses }
 unfolding startOf startDeclared
-started = rw (said .answer, placed)
+run-started = rw (said .answer, placed)
 
 pub run-case : RunCase
 unfolding busOf
-run-case = (refl, rw started (record { accepted = refl; aperture = said .aperture; count = said .count; devices = said .devices; ranges = said .ranges }))
+run-case = (refl, rw run-started (record { accepted = refl; aperture = said .aperture; count = said .count; devices = said .devices; ranges = said .ranges }))

@@ -23,5 +23,6 @@ pub mod Masked
 pub mod Keeping
 pub mod Goods
 pub mod Readers
+pub mod ByteFiles
 mod Lent
 mod Handed

@@ -1,6 +1,5 @@
 -- Demand 3, of every accepted file and every history, and what follows from it.
 use Prim.Native.Nat.{ℕ, _*_, _+_, _<_}
-use mathlib.Core.Bool.{cond}
 use mathlib.Core.List.{List, [], _∷_, _++_}
 use mathlib.Core.Path.{_≡_, sym, ap, _∙_}
 use lib.ListN.{getD}
@@ -11,34 +10,23 @@ use Rattle.bar.specs.declared.bar_state.BarState.{BarState}
 use Rattle.config.specs.State.{barAt}
 use Rattle.declaration.specs.declared.answer.Declaration.{Declaration}
 use Rattle.bus.specs.Bus.{functionAt}
-use Rattle.bus.specs.Lookup.{decodes, lookupOf}
 use Rattle.bus.specs.Sound.{Sound}
 use Rattle.bus.specs.Start.{declaredFunction, planAt, placementIn}
-use Rattle.bus.specs.declared.memory_lookup.LookupAnswer.the-variants as lookup
 use Rattle.bus.specs.declared.state.Bus.{Bus}
-use Rattle.bus.proofs.Devices.{sound-device}
-use Rattle.bus.proofs.LookupExact.{lookup-first}
+use Rattle.bus.proofs.LookupExact.{looked-lookup}
 use Rattle.bus.proofs.Outcomes.{start-accepted}
 use Rattle.bus.proofs.Powered.{start-bar, bus-function}
 use Rattle.bus.proofs.RestoredBars.{reset-bar}
-use Rattle.bus.proofs.SoundParts.{sound-plan}
 use Rattle.enumeration.specs.Enumerate.{enumerateOf}
 use Rattle.enumeration.specs.History.{History, resets, after, ran}
-use Rattle.enumeration.specs.Truth.{Accepted, declared, started, sizeIn, addressIn, Quiet, Demand, Agreement, Absence, Restoration}
+use Rattle.enumeration.specs.Truth.{Accepted, declared, started, addressIn, Quiet, Demand, Agreement, Absence, Restoration, Enumerations, OnlyAnswer}
 use Rattle.enumeration.proofs.Follows.{equal-reports, equal-addresses}
 use Rattle.enumeration.proofs.Histories.{accepted-start, history-sound, ran-last}
-use Rattle.enumeration.proofs.Truths.{report-sound, truth-by, absent-sound}
-
--- memory lookup finds each BAR at the address where it is
-lookup-uses : (d : Declaration) (b : Bus) → Sound d b → (k : ℕ) → k < d .count → (i : ℕ) → i < barCount → 0 < sizeIn (declaredFunction d k) i → lookupOf b (addressIn (functionAt b k) i) 1 ≡ cond (decodes (functionAt b k)) (lookup.Hit (declaredFunction d k .device) i 0) lookup.Miss
-lookup-uses d b s k h i l z = rw (← sound-device d b s k h) (lookup-first d b s k i h l (rw (sound-plan d b s k h i l) z))
+use Rattle.enumeration.proofs.OwnWrites.{enumeration-writes, enumeration-ran}
+use Rattle.enumeration.proofs.Truths.{report-sound, truth-sound, absent-sound}
 
 pub truth : Demand
-truth file a h k l quiet =
-    let d = declared file in
-    let b = ran (started file) h in
-    let s = history-sound file a h in
-    truth-by d b s k l quiet (lookup-uses d b s k l)
+truth file a h k l quiet = truth-sound (declared file) (ran (started file) h) (history-sound file a h) k l quiet
 
 -- "So two functions with equal reports agree in all of these"
 pub agreement : Agreement
@@ -89,3 +77,10 @@ restoration file a h k l =
       address = plan-address d b k p;
       report = plan-report d b (started file) (history-sound file a (h ++ (resets ∷ []))) (accepted-start file a .sound) k l p (start-plan file a k l);
     }
+
+-- the writes of an enumeration are a history of its own
+pub enumerations : Enumerations
+enumerations b device = (enumeration-writes b device, enumeration-ran b device)
+
+pub only-answer : OnlyAnswer
+only-answer file a h = looked-lookup (declared file) (ran (started file) h) (history-sound file a h)

@@ -25,11 +25,15 @@ module _ (d : Declaration) where
   sound-ran b s [] = s
   sound-ran b s (t ∷ h) = sound-ran (after b t) (sound-after b s t) h
 
--- a step at the end is a step of the bus after the rest
+-- a history after another goes on from the bus after the first
+pub ran-append : (b : Bus) (h g : History) → ran b (h ++ g) ≡ ran (ran b h) g
+unfolding ran
+ran-append b [] g = refl
+ran-append b (t ∷ h) g = ran-append (after b t) h g
+
 pub ran-last : (b : Bus) (h : History) (t : Step) → ran b (h ++ (t ∷ [])) ≡ after (ran b h) t
 unfolding ran
-ran-last b [] t = refl
-ran-last b (u ∷ h) t = ran-last (after b u) h t
+ran-last b h t = ran-append b h (t ∷ [])
 
 module _ (file : List ℕ) (a : Accepted file) where
   pub accepted-start : SoundStart (declared file) (started file)

@@ -10,5 +10,7 @@ pub mod TrueReports
 pub mod Truths
 pub mod Follows
 pub mod Histories
+pub mod OwnWrites
 pub mod Demand
 pub mod Premises
+pub mod MovedCase

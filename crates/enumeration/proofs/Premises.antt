@@ -1,21 +1,15 @@
 -- The premise of demand 3 is needed: the file is read, its BAR placed, and the rest computes.
-use Prim.Native.Nat.{ℕ, _<_, _≤_}
-use mathlib.Core.Bool.{true}
+use Prim.Native.Nat.{ℕ}
 use mathlib.Core.List.{List}
-use mathlib.Core.Logic.{⊎-elim}
 use mathlib.Core.Path.{_≡_, refl, sym, ap, subst, _∙_}
 use native.Mathlib.Omega.{arith}
-use borrow.Author.Tests.{ltb-true}
-use lib.Dec.{ltb}
-use lib.ListN.{length, getD, set, replicate, List·getD-eq-default}
+use lib.ListN.{set, replicate}
 use Rattle.word.specs.Interval.{covers, overlap}
 use Rattle.word.specs.Number.{number, readAt, bytesOf, merge}
 use Rattle.word.specs.Search.{anyBelow, allBelow, firstBelow, firstOf}
 use Rattle.word.specs.Store.{blend, stored}
 use Rattle.word.specs.Table.{table, filled}
 use Rattle.word.specs.Width.{widthOk}
-use Rattle.word.proofs.Searches.{all-each}
-use Rattle.word.proofs.Tests.{below-or-not}
 use Rattle.address.specs.Check.{accessOk, accessOf}
 use Rattle.address.specs.Limits.{limits}
 use Rattle.bar.specs.Bar.{sizeOk, powerOfTwo}
@@ -50,7 +44,6 @@ use Rattle.declaration.specs.Answer.{checkedWhole, declaredFrom, declaredBy}
 use Rattle.declaration.specs.Blank.{emptyContents, emptyFunction, nothingSoFar}
 use Rattle.declaration.specs.Finished.{opened, noneFinished, finishedWith, finishedSoFar}
 use Rattle.declaration.specs.Frame.{frameOf}
-use Rattle.declaration.specs.Good.{Bytes}
 use Rattle.declaration.specs.Reading.{readField, readFields}
 use Rattle.declaration.specs.Standing.{deviceUsed}
 use Rattle.declaration.specs.Said.{saidBy, saidOf}
@@ -59,6 +52,7 @@ use Rattle.declaration.specs.Take.{takenSaid}
 use Rattle.declaration.specs.Whole.{faultOf}
 use Rattle.declaration.specs.declared.answer.Declaration.{Declaration}
 use Rattle.declaration.specs.declared.answer.DeclarationAnswer.the-variants as answer
+use Rattle.declaration.proofs.ByteFiles.{all-bytes}
 use Rattle.bus.specs.Access.{busReadOf, rangeBut, rangesBut, accepts, writtenOn, busWriteOf}
 use Rattle.bus.specs.Bus.{functionAt, noFunctionState, indexIn, rangeOn}
 use Rattle.bus.specs.Outcome.{declarationOf}
@@ -69,17 +63,6 @@ use Rattle.enumeration.specs.Enumerate.{asked, answersByte, identityRead
 use Rattle.enumeration.specs.History.{after, ran}
 use Rattle.enumeration.specs.Premise.{file, probes, Mistaken, Unguarded, Needed}
 use Rattle.enumeration.specs.Truth.{Accepted, started, addressIn}
-
--- the file is one of bytes
-all-bytes : allBelow (λ k. ltb (getD file k 0) 256) (length file) ≡ true
-unfolding allBelow
-all-bytes = refl
-
-bytes : Bytes file
-bytes k =
-    ⊎-elim (λ (h : k < length file). ltb-true (getD file k 0) 256 (all-each (λ k. ltb (getD file k 0) 256) (length file) all-bytes k h))
-    (λ (h : length file ≤ k). rw (List·getD-eq-default file 0 {n = k} h) (omega arith))
-    (below-or-not k (length file))
 
 abbrev declaration : Declaration
 declaration = declarationOf limits file
@@ -123,7 +106,8 @@ unfolding declaredBy declaredFrom checkedWhole readFields readField frameOf leng
 mistaken = record { at = refl; reported = refl; moved = refl }
 
 accepted : Accepted file
-accepted = record { bytes = bytes; answer = ap (λ (s : Started). s .answer) start }
+unfolding allBelow
+accepted = record { bytes = all-bytes file refl; answer = ap (λ (s : Started). s .answer) start }
 
 its : Mistaken (ran (started file) probes)
 its = subst (λ (s : Started). Mistaken (ran (s .bus) probes)) (sym start) mistaken

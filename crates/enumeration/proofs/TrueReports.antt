@@ -15,11 +15,12 @@ use Rattle.config.specs.declared.function.Function.{Function}
 use Rattle.config.specs.declared.state.FunctionState.{FunctionState}
 use Rattle.enumeration.specs.Enumerate.{emptySlot, noListed}
 use Rattle.enumeration.specs.Truth.{slotReport, sizeIn, addressIn, declaredListed, declaredList, declaredReport}
+use Rattle.enumeration.specs.declared.report.SlotReport.{SlotReport}
 
--- a slot that is reported has a BAR
-pub slot-there : (n a : ℕ) → 0 < slotReport n a .size → 0 < n
-slot-there n a =
-    ⊎-elim (λ (t : eqb n 0 || eqb n fourGib ≡ true). rw t (λ h. absurd (omega arith))) (λ (t : eqb n 0 || eqb n fourGib ≡ false). rw t (λ h. h)) (true-or-false (eqb n 0 || eqb n fourGib))
+-- a slot is reported empty, or as it is
+pub slot-by : (n a : ℕ) (P : SlotReport → Type 0) → P emptySlot → P (record { size = n; address = a }) → P (slotReport n a)
+slot-by n a P none some =
+    ⊎-elim (λ (t : eqb n 0 || eqb n fourGib ≡ true). rw t none) (λ (t : eqb n 0 || eqb n fourGib ≡ false). rw t some) (true-or-false (eqb n 0 || eqb n fourGib))
 
 -- the reported size does not depend on the address, and where it is not 0 the address is the one reported
 pub slot-size : (n a : ℕ) → slotReport n a .size ≡ slotReport n 0 .size

@@ -1,11 +1,10 @@
 -- Enumeration tells the truth of a declared function on a sound bus, and leaves the bus; of any other device it says "absent".
 use Prim.Native.Nat.{ℕ, _<_}
-use mathlib.Core.Bool.{cond}
 use mathlib.Core.Path.{_≡_, refl, ap, _∙_}
 use native.Mathlib.Omega.{arith}
 use borrow.Author.Tests.{ne-eqb}
-use lib.ListN.{getD}
 use Rattle.word.specs.Width.{widthOk}
+use Rattle.word.proofs.Widths.{width-pos}
 use Rattle.address.specs.Check.{accessOk}
 use Rattle.address.specs.Layout as layout
 use Rattle.address.specs.Layout.{configSpaceSize, barCount}
@@ -14,20 +13,21 @@ use Rattle.config.specs.declared.function.Function.{Function}
 use Rattle.config.specs.declared.state.FunctionState.{FunctionState}
 use Rattle.declaration.specs.declared.answer.Declaration.{Declaration}
 use Rattle.bus.specs.Bus.{functionAt}
-use Rattle.bus.specs.Lookup.{decodes, lookupOf}
+use Rattle.bus.specs.Lookup.{mostLookup, decodes}
 use Rattle.bus.specs.Sound.{Sound}
 use Rattle.bus.specs.Start.{declaredFunction}
-use Rattle.bus.specs.declared.memory_lookup.LookupAnswer.the-variants as lookup
 use Rattle.bus.specs.declared.state.Bus.{Bus}
-use Rattle.bus.proofs.Devices.{sound-no-read}
-use Rattle.enumeration.specs.Enumerate.{asked, emptySlot, enumerateOf}
-use Rattle.enumeration.specs.Truth.{slotReport, sizeIn, addressIn, declaredReport, Quiet, Truth, Absent}
+use Rattle.bus.proofs.Devices.{sound-device, sound-no-read}
+use Rattle.bus.proofs.LookupExact.{lookup-within}
+use Rattle.bus.proofs.SoundParts.{sound-plan}
+use Rattle.enumeration.specs.Enumerate.{asked, enumerateOf}
+use Rattle.enumeration.specs.Truth.{slotReport, sizeIn, addressIn, declaredReport, slotIn, Quiet, Used, Truth, Absent}
 use Rattle.enumeration.specs.declared.report.Report.{Report}
 use Rattle.enumeration.specs.declared.whole.Enumerated.{Enumerated}
 use Rattle.enumeration.proofs.AllSlots.{slots-leave, slots-truth}
 use Rattle.enumeration.proofs.CapabilityLists.{list-truth}
 use Rattle.enumeration.proofs.Constants.{vendor-asked, identity-read, pin-asked}
-use Rattle.enumeration.proofs.TrueReports.{slot-there, slot-size, slot-address, reported-slot}
+use Rattle.enumeration.proofs.TrueReports.{slot-by, reported-slot}
 
 module _ (d : Declaration) (b : Bus) (s : Sound d b) where
   module _ (k : ℕ) (h : k < d .count) (quiet : Quiet (functionAt b k)) where
@@ -42,7 +42,7 @@ module _ (d : Declaration) (b : Bus) (s : Sound d b) where
     whole =
         rw (
           vendor-asked d b s k h,
-          ne-eqb (its .contents .identity .vendor) 0xffff (s .good .functions .each k .contents .identity .present),
+          ne-eqb (its .contents .identity .vendor) layout.absentVendorId (s .good .functions .each k .contents .identity .present),
           identity-read d b s k h,
           pin-asked d b s k h,
           slots-truth d b s k h quiet,
@@ -56,16 +56,18 @@ module _ (d : Declaration) (b : Bus) (s : Sound d b) where
     pub leaves-sound : enumerateOf b (its .device) .bus ≡ b
     leaves-sound = ap (λ (e : Enumerated). e .bus) whole
 
-    -- all of it, where memory lookup finds each BAR at its own address
-    pub truth-by : ((i : ℕ) → i < barCount → 0 < sizeIn its i → lookupOf b (addressIn now i) 1 ≡ cond (decodes now) (lookup.Hit (its .device) i 0) lookup.Miss) → Truth d b k
-    truth-by found =
-        record {
-          report = report-sound;
-          leaves = leaves-sound;
-          uses = λ i l.
-              let e : getD (enumerateOf b (its .device) .report .slots) i emptySlot ≡ slotReport (sizeIn its i) (addressIn now i) = ap (λ (r : Report). getD (r .slots) i emptySlot) report-sound ∙ reported-slot its now i l in
-              rw e (λ z. rw (slot-address (sizeIn its i) (addressIn now i) (rw (slot-size (sizeIn its i) (addressIn now i)) at z)) (found i l (slot-there (sizeIn its i) (addressIn now i) z)));
-        }
+    reported : (i : ℕ) → i < barCount → slotIn (enumerateOf b (its .device) .report) i ≡ slotReport (sizeIn its i) (addressIn now i)
+    reported i l = ap (λ (r : Report). slotIn r i) report-sound ∙ reported-slot its now i l
+
+    -- an access that lies in a reported slot lies in the BAR there
+    uses-sound : (i : ℕ) → i < barCount → Used b (decodes now) (its .device) i (slotReport (sizeIn its i) (addressIn now i))
+    uses-sound i l =
+        slot-by (sizeIn its i) (addressIn now i) (Used b (decodes now) (its .device) i)
+        (λ x w e p q. absurd (omega (arith, width-pos mostLookup w e)))
+        (λ x w e p q. rw (← sound-device d b s k h) (lookup-within d b s k i h l x w e p (rw (sound-plan d b s k h i l) q)))
+
+    pub truth-sound : Truth d b k
+    truth-sound = record { report = report-sound; leaves = leaves-sound; uses = λ i l. rw (reported i l) (uses-sound i l) }
 
   pub absent-sound : (device : ℕ) → Absent d b device
   unfolding enumerateOf asked accessOk widthOk

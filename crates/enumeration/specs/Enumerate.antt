@@ -13,6 +13,7 @@ use Rattle.bar.specs.Range.{fourGib}
 use Rattle.config.specs.declared.function.Identity.{Identity}
 use Rattle.config.specs.declared.read_step.ReadAnswer.{ReadAnswer}
 use Rattle.config.specs.declared.read_step.ReadAnswer.the-variants as readAnswer
+use Rattle.declaration.specs.Blank.{noIdentity}
 use Rattle.bus.specs.Access.{busReadOf, busWriteOf}
 use Rattle.bus.specs.declared.state.Bus.{Bus}
 use Rattle.enumeration.specs.declared.report.SlotReport.{SlotReport}
@@ -99,9 +100,6 @@ noListed = record { offset = 0; id = 0 }
 abbrev pub listArray : List Listed → List Listed
 listArray l = filled capabilityRoom (length l) (λ k. getD l k noListed) noListed
 
-abbrev pub noIdentity : Identity
-noIdentity = record { vendor = 0; device = 0; «subsystem_vendor» = 0; subsystem = 0; revision = 0; «base_class» = 0; subclass = 0; «programming_interface» = 0 }
-
 -- "absent"
 unfoldable pub absentReport : Report
 absentReport =
@@ -113,5 +111,5 @@ reportWith identity pin slots l = record { present = true; identity = identity; 
 -- the whole: identity and pin, then the slots, then the list
 unfoldable pub enumerateOf : Bus → ℕ → Enumerated
 enumerateOf b d =
-    cond (eqb (asked b d layout.vendorId 2) 0xffff) (record { report = absentReport; bus = b })
+    cond (eqb (asked b d layout.vendorId 2) layout.absentVendorId) (record { report = absentReport; bus = b })
     (record { report = reportWith (identityRead b d) (asked b d layout.interruptPin 1) (slotsRead b d) (listRead (afterSlots b d layout.barCount) d); bus = afterSlots b d layout.barCount })

@@ -4,3 +4,4 @@ pub mod Turn
 pub mod History
 pub mod Truth
 pub mod Premise
+pub mod Moved

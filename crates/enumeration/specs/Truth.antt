@@ -1,12 +1,13 @@
 -- Demand 3. "On a bus from an accepted file, after any accesses and resets, if no BAR of the declared function is showing its size, the enumeration of document 01 reports the declared identity, pin, slots, sizes, capability ids and offsets, and the addresses that memory lookup uses, and leaves those addresses as they were. So two functions with equal reports agree in all of these. A 4 GiB BAR counts as an empty slot."
--- proofs/Demand.antt proves `Demand` and what follows from it: `Agreement`, `Absence`, `Restoration`.
-use Prim.Native.Nat.{ℕ, _+_, _*_, _<_}
-use mathlib.Core.Bool.{false, _||_, cond}
+-- proofs/Demand.antt proves `Demand` and what goes with it: `Agreement`, `Absence`, `Restoration`, `Enumerations`, `OnlyAnswer`.
+use Prim.Native.Nat.{ℕ, _+_, _-_, _*_, _<_, _≤_}
+use mathlib.Core.Bool.{Bool, true, false, _||_, cond}
 use mathlib.Core.List.{List, [], _∷_, _++_}
 use mathlib.Core.Path.{_≡_}
 use lib.Dec.{eqb}
 use lib.ListN.{getD}
 use Rattle.word.specs.Table.{table}
+use Rattle.word.specs.Width.{widthOk}
 use Rattle.address.specs.Layout.{barCount}
 use Rattle.address.specs.Limits.{limits}
 use Rattle.bar.specs.Bar.{noBar}
@@ -21,9 +22,11 @@ use Rattle.declaration.specs.Good.{Bytes}
 use Rattle.declaration.specs.declared.answer.Declaration.{Declaration}
 use Rattle.declaration.specs.declared.answer.DeclarationAnswer.the-variants as answer
 use Rattle.bus.specs.Bus.{functionAt}
-use Rattle.bus.specs.Lookup.{decodes, lookupOf}
+use Rattle.bus.specs.Held.{Looked}
+use Rattle.bus.specs.Lookup.{mostLookup, decodes, lookupOf}
 use Rattle.bus.specs.Outcome.{declarationOf}
 use Rattle.bus.specs.Start.{declaredFunction, placementIn, startOf}
+use Rattle.bus.specs.declared.memory_lookup.LookupAnswer.{LookupAnswer}
 use Rattle.bus.specs.declared.memory_lookup.LookupAnswer.the-variants as lookup
 use Rattle.bus.specs.declared.state.Bus.{Bus}
 use Rattle.enumeration.specs.Enumerate.{emptySlot, reportWith, absentReport, enumerateOf}
@@ -68,16 +71,23 @@ declaredList f = table (f .capabilities .count) (declaredListed f)
 abbrev pub declaredReport : Function → FunctionState → Report
 declaredReport f s = reportWith (f .contents .identity) (pinOf (f .contents .intx)) (declaredSlots f s) (declaredList f)
 
+-- what a report says of a slot
+abbrev pub slotIn : Report → ℕ → SlotReport
+slotIn r i = getD (r .slots) i emptySlot
+
 -- no BAR is showing its size
 abbrev pub Quiet : FunctionState → Type 0
 Quiet s = (i : ℕ) → i < barCount → 0 < barAt (s .bars) i .plan .size → barAt (s .bars) i .probing ≡ false
+
+-- "the addresses that memory lookup uses": every whole access in a slot as it is reported is answered with that slot and the offset from the reported address, exactly if command bit 1 is set
+abbrev pub Used : Bus → Bool → ℕ → ℕ → SlotReport → Type 0
+Used b decoding device i r = (x w : ℕ) → widthOk mostLookup w ≡ true → r .address ≤ x → x + w ≤ r .address + r .size → lookupOf b x w ≡ cond decoding (lookup.Hit device i (x - r .address)) lookup.Miss
 
 -- the truth about the function at index k, in device order, on a bus
 pub record Truth (d : Declaration) (b : Bus) (k : ℕ) : Type 0 where
   pub report : enumerateOf b (declaredFunction d k .device) .report ≡ declaredReport (declaredFunction d k) (functionAt b k)
   pub leaves : enumerateOf b (declaredFunction d k .device) .bus ≡ b
-  -- "the addresses that memory lookup uses": one byte at a reported address is that slot's first, exactly if command bit 1 is set
-  pub uses : (i : ℕ) → i < barCount → 0 < getD (enumerateOf b (declaredFunction d k .device) .report .slots) i emptySlot .size → lookupOf b (getD (enumerateOf b (declaredFunction d k .device) .report .slots) i emptySlot .address) 1 ≡ cond (decodes (functionAt b k)) (lookup.Hit (declaredFunction d k .device) i 0) lookup.Miss
+  pub uses : (i : ℕ) → i < barCount → Used b (decodes (functionAt b k)) (declaredFunction d k .device) i (slotIn (enumerateOf b (declaredFunction d k .device) .report) i)
 
 -- the demand
 abbrev pub Demand : Type 0
@@ -112,3 +122,11 @@ pub record AsPlaced (file : List ℕ) (h : History) (k : ℕ) : Type 0 where
 
 abbrev pub Restoration : Type 0
 Restoration = (file : List ℕ) → Accepted file → (h : History) (k : ℕ) → k < declared file .count → AsPlaced file h k
+
+-- "any accesses" are also those of enumerations: on any bus, the bus after one is the bus after a history
+abbrev pub Enumerations : Type 0
+Enumerations = (b : Bus) (device : ℕ) → (h : History) × (enumerateOf b device .bus ≡ ran b h)
+
+-- memory lookup after any history has one answer: what is so of the BARs (`Looked`) is what it answers
+abbrev pub OnlyAnswer : Type 0
+OnlyAnswer = (file : List ℕ) → Accepted file → (h : History) (address width : ℕ) (r : LookupAnswer) → Looked (ran (started file) h) address width r → lookupOf (ran (started file) h) address width ≡ r
