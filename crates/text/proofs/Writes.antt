@@ -12,8 +12,7 @@ use Rattle.word.specs.Store.{laidOver}
 use Rattle.word.proofs.Tests.{below-or-not}
 use Rattle.word.proofs.Intervals.{covers-in, covers-before}
 use Rattle.word.proofs.Puts.{laid-length, laid-at}
-use Rattle.text.specs.Text.{lineAt, linesBelow}
-use Rattle.text.specs.declared.shown.Shown.{Shown}
+use Rattle.text.specs.Part.{partsBelow}
 
 module _ (bytes : List ℕ) (o : ℕ) (part : List ℕ) (room : o + length part ≤ length bytes) where
   front : length (take o bytes) ≡ o
@@ -45,11 +44,11 @@ counts n buffer h = (h, sym (length-take-le n buffer h))
 pub joined : (f a b c d e : List ℕ) → f ++ a ++ b ++ c ++ d ++ e ≡ f ++ (a ++ b ++ c ++ d ++ e)
 joined f a b c d e = simp append-assoc
 
--- lines behind a text: none, and one more
-pub lines-none : (f : List ℕ) (s : Shown) → f ++ linesBelow s 0 ≡ f
-unfolding linesBelow
-lines-none f s = append-nil f
+-- parts behind a text: none, and one more
+pub parts-none : (f : List ℕ) (part : ℕ → List ℕ) → f ++ partsBelow part 0 ≡ f
+unfolding partsBelow
+parts-none f part = append-nil f
 
-pub lines-more : (f : List ℕ) (s : Shown) (k : ℕ) → f ++ linesBelow s k ++ lineAt s k ≡ f ++ linesBelow s (k + 1)
-unfolding linesBelow
-lines-more f s k = rw add-one (append-assoc f (linesBelow s k) (lineAt s k))
+pub parts-more : (f : List ℕ) (part : ℕ → List ℕ) (k : ℕ) → f ++ partsBelow part k ++ part k ≡ f ++ partsBelow part (k + 1)
+unfolding partsBelow
+parts-more f part k = rw add-one (append-assoc f (partsBelow part k) (part k))
