@@ -1,8 +1,8 @@
 -- What stands at the front of a buffer after a write at its end.
 use Prim.Native.Nat.{ℕ, _+_, _-_, _<_, _≤_}
-use mathlib.Core.List.{List, _++_, append-nil, append-assoc}
+use mathlib.Core.List.{List, [], _∷_, _++_, append-nil, append-assoc}
 use mathlib.Core.Logic.{⊎-elim}
-use mathlib.Core.Path.{_≡_, sym, _∙_}
+use mathlib.Core.Path.{_≡_, refl, sym, ap, _∙_}
 use native.Mathlib.Numerals.{add-one}
 use native.Mathlib.Omega.{arith}
 use lib.ListN.{length, getD, take, length-append, List·getD-append}
@@ -40,9 +40,14 @@ module _ (bytes : List ℕ) (o : ℕ) (part : List ℕ) (room : o + length part 
 pub counts : (n : ℕ) (buffer : List ℕ) → n ≤ length buffer → Counts n buffer
 counts n buffer h = (h, sym (length-take-le n buffer h))
 
--- five parts that were written one after the other, as one
-pub joined : (f a b c d e : List ℕ) → f ++ a ++ b ++ c ++ d ++ e ≡ f ++ (a ++ b ++ c ++ d ++ e)
-joined f a b c d e = simp append-assoc
+-- parts that were written one after the other behind a text, as one
+abbrev pub run : List ℕ → List (List ℕ) → List ℕ
+run f [] = f
+run f (p ∷ ps) = run (f ++ p) ps
+
+pub joined : (f p : List ℕ) (ps : List (List ℕ)) → run (f ++ p) ps ≡ f ++ run p ps
+joined f p [] = refl
+joined f p (q ∷ ps) = ap (λ (x : List ℕ). run x ps) (append-assoc f p q) ∙ joined f (p ++ q) ps
 
 -- parts behind a text: none, and one more
 pub parts-none : (f : List ℕ) (part : ℕ → List ℕ) → f ++ partsBelow part 0 ≡ f
