@@ -31,7 +31,7 @@ fn no_ranges() -> [Range; KEY_COUNT]
 }
 
 // The committed range at a key; the empty one where there is no such function.
-pub(crate) fn range_on(bus: Bus, key: usize) -> Range
+pub fn range_on(bus: Bus, key: usize) -> Range
     ensures { λ r. ⌜ r ≡ rangeOn bus key ⌝ }
 {
     let k = key / BAR_SLOTS;

@@ -66,7 +66,7 @@ pub(crate) fn count_on(count: usize) -> usize
 }
 
 // The index of a device among the first `count`, or the count where it is none of them.
-pub(crate) fn index_of(devices: &[u8], count: usize, device: usize) -> usize
+pub fn index_of(devices: &[u8], count: usize, device: usize) -> usize
     ensures { λ r. ⌜ r ≡ indexIn (now (devices .entry)) count device ⌝ }
 {
     let mut k = 0;
@@ -80,7 +80,7 @@ pub(crate) fn index_of(devices: &[u8], count: usize, device: usize) -> usize
 }
 
 // The function at an index; the blank one past the last place.
-pub(crate) fn function_at(bus: Bus, k: usize) -> FunctionState
+pub fn function_at(bus: Bus, k: usize) -> FunctionState
     ensures { λ r. ⌜ r ≡ functionAt bus k ⌝ }
 {
     if k < FUNCTION_LIMIT {

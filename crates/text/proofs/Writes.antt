@@ -1,8 +1,8 @@
 -- What stands at the front of a buffer after a write at its end.
 use Prim.Native.Nat.{ℕ, _+_, _-_, _<_, _≤_}
-use mathlib.Core.List.{List, _++_, append-nil, append-assoc}
+use mathlib.Core.List.{List, [], _∷_, _++_, append-nil, append-assoc}
 use mathlib.Core.Logic.{⊎-elim}
-use mathlib.Core.Path.{_≡_, sym, _∙_}
+use mathlib.Core.Path.{_≡_, refl, sym, ap, _∙_}
 use native.Mathlib.Numerals.{add-one}
 use native.Mathlib.Omega.{arith}
 use lib.ListN.{length, getD, take, length-append, List·getD-append}
@@ -12,8 +12,7 @@ use Rattle.word.specs.Store.{laidOver}
 use Rattle.word.proofs.Tests.{below-or-not}
 use Rattle.word.proofs.Intervals.{covers-in, covers-before}
 use Rattle.word.proofs.Puts.{laid-length, laid-at}
-use Rattle.text.specs.Text.{lineAt, linesBelow}
-use Rattle.text.specs.declared.shown.Shown.{Shown}
+use Rattle.text.specs.Part.{partsBelow}
 
 module _ (bytes : List ℕ) (o : ℕ) (part : List ℕ) (room : o + length part ≤ length bytes) where
   front : length (take o bytes) ≡ o
@@ -41,15 +40,20 @@ module _ (bytes : List ℕ) (o : ℕ) (part : List ℕ) (room : o + length part 
 pub counts : (n : ℕ) (buffer : List ℕ) → n ≤ length buffer → Counts n buffer
 counts n buffer h = (h, sym (length-take-le n buffer h))
 
--- five parts that were written one after the other, as one
-pub joined : (f a b c d e : List ℕ) → f ++ a ++ b ++ c ++ d ++ e ≡ f ++ (a ++ b ++ c ++ d ++ e)
-joined f a b c d e = simp append-assoc
+-- parts that were written one after the other behind a text, as one
+abbrev pub run : List ℕ → List (List ℕ) → List ℕ
+run f [] = f
+run f (p ∷ ps) = run (f ++ p) ps
 
--- lines behind a text: none, and one more
-pub lines-none : (f : List ℕ) (s : Shown) → f ++ linesBelow s 0 ≡ f
-unfolding linesBelow
-lines-none f s = append-nil f
+pub joined : (f p : List ℕ) (ps : List (List ℕ)) → run (f ++ p) ps ≡ f ++ run p ps
+joined f p [] = refl
+joined f p (q ∷ ps) = ap (λ (x : List ℕ). run x ps) (append-assoc f p q) ∙ joined f (p ++ q) ps
 
-pub lines-more : (f : List ℕ) (s : Shown) (k : ℕ) → f ++ linesBelow s k ++ lineAt s k ≡ f ++ linesBelow s (k + 1)
-unfolding linesBelow
-lines-more f s k = rw add-one (append-assoc f (linesBelow s k) (lineAt s k))
+-- parts behind a text: none, and one more
+pub parts-none : (f : List ℕ) (part : ℕ → List ℕ) → f ++ partsBelow part 0 ≡ f
+unfolding partsBelow
+parts-none f part = append-nil f
+
+pub parts-more : (f : List ℕ) (part : ℕ → List ℕ) (k : ℕ) → f ++ partsBelow part k ++ part k ≡ f ++ partsBelow part (k + 1)
+unfolding partsBelow
+parts-more f part k = rw add-one (append-assoc f (partsBelow part k) (part k))

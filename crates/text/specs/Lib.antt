@@ -1,5 +1,6 @@
 -- The text that the placement program prints.
 pub mod Numeral
+pub mod Part
 pub mod Line
 pub mod Text
 pub mod Examples

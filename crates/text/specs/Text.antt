@@ -1,5 +1,5 @@
 -- The whole text, for what is shown of a bus and for a file (document 01, the Run case).
-use Prim.Native.Nat.{ℕ, zero, suc, _+_, _*_, _/_, _%_}
+use Prim.Native.Nat.{ℕ, _+_, _*_, _/_, _%_}
 use mathlib.Core.Bool.{cond}
 use mathlib.Core.List.{List, [], _++_}
 use mathlib.Core.Path.{_≡_}
@@ -17,6 +17,7 @@ use Rattle.declaration.specs.declared.answer.DeclarationAnswer.the-variants.{Ac
 use Rattle.bus.specs.Bus.{rangeOn}
 use Rattle.bus.specs.Start.{startOf}
 use Rattle.bus.specs.declared.power_up.Started.{Started}
+use Rattle.text.specs.Part.{partsBelow}
 use Rattle.text.specs.Line.{apertureLength, barLength, apertureLine, barLine, refusedLine, refusedLong}
 use Rattle.text.specs.declared.shown.Shown.{Shown}
 
@@ -29,9 +30,8 @@ lineAt s key =
     cond (eqb (rangeAt s key .size) 0) [] (barLine (getD (s .devices) (key / barCount) 0) (key % barCount) (rangeAt s key .start) (rangeAt s key .size))
 
 -- the lines of the first n keys: "BAR lines go by device, then slot"
-unfoldable pub linesBelow : Shown → ℕ → List ℕ
-linesBelow s zero = []
-linesBelow s (suc n) = linesBelow s n ++ lineAt s n
+abbrev pub linesBelow : Shown → ℕ → List ℕ
+linesBelow s n = partsBelow (lineAt s) n
 
 -- the longest text: an aperture's line and one for each key
 abbrev pub textRoom : ℕ

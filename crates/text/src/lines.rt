@@ -23,7 +23,7 @@ fn wide_index(x: usize) -> u64
 }
 
 // A blank and hex digits.
-fn put_column(text: &mut [u8], at: usize, count: usize, value: u64) -> usize
+pub(crate) fn put_column(text: &mut [u8], at: usize, count: usize, value: u64) -> usize
     requires { ⌜ at + (1 + count) ≤ length (now text) ⌝ }
     ensures { λ r. ⌜ (r ≡ at + (1 + count)) × (take r (now (text .exit)) ≡ take at (now (text .entry)) ++ column count value) ⌝ }
 {

@@ -40,12 +40,15 @@ pub(crate) fn put_hex(text: &mut [u8], at: usize, count: usize, value: u64) -> u
     end
 }
 
+// The most decimal digits that a number has.
+pub(crate) const DECIMAL_ROOM: usize = 20;
+
 // A number in decimal.
 pub(crate) fn put_decimal(text: &mut [u8], at: usize, value: u64) -> usize
     requires { ⌜ at + decimalRoom ≤ length (now text) ⌝ }
     ensures { λ r. ⌜ (r ≤ at + decimalRoom) × (take r (now (text .exit)) ≡ take at (now (text .entry)) ++ decimalOf value) ⌝ }
 {
-    let mut decimal = [0u8; 20];
+    let mut decimal = [0u8; DECIMAL_ROOM];
     let count = io::decimal(value, &mut decimal);
     put_bytes(text, at, &decimal[..count])
 }

@@ -6,12 +6,12 @@ ghost use Rattle.placement.specs.Place.{noRange};
 ghost use Rattle.placement.specs.Keys.{keyCount};
 ghost use Rattle.bus.specs.Bus.{rangeOn};
 ghost use Rattle.text.specs.Text.{shownOf};
-use address::limits::BAR_SLOTS;
 use address::limits::FUNCTION_LIMIT;
 use bar::Aperture;
 use bar::Range;
 use bus::Bus;
 use bus::Started;
+use bus::range_on;
 use declaration::DeclarationAnswer;
 use placement::KEY_COUNT;
 
@@ -21,19 +21,6 @@ pub struct Shown {
     pub aperture: Aperture,
     pub devices: [u8; FUNCTION_LIMIT],
     pub ranges: [Range; KEY_COUNT],
-}
-
-// The committed range at a key; the empty one where there is no such function.
-fn range_on(bus: Bus, key: usize) -> Range
-    ensures { λ r. ⌜ r ≡ rangeOn bus key ⌝ }
-{
-    let k = key / BAR_SLOTS;
-    if k < word::at_most(bus.count, FUNCTION_LIMIT) {
-        let function = bus.functions[k];
-        let bar = function.bars[key % BAR_SLOTS];
-        return bar.range();
-    }
-    Range { start: 0, size: 0 }
 }
 
 fn no_ranges() -> [Range; KEY_COUNT]

@@ -1,4 +1,5 @@
 -- `put_bar`: each part follows the one before.
+use mathlib.Core.List.{[], _∷_}
 use borrow.Author.Needs.{needs}
 use lib.ListN.{take}
 use Rattle.text.specs.Numeral.{hexOf}
@@ -40,7 +41,7 @@ returns c =
     let address = c .before .before .before .before .before .before .before .before .before .before .before .put-column .ensures in
     let slot = c .before .before .before .before .before .before .before .before .before .before .before .before .before .before .before .put-hex .ensures in
     let device = c .before .before .before .before .before .before .before .before .before .before .before .before .before .before .before .before .before .before .before .before .put-device .ensures in
-    (search needs, rw (line .1, size .1, address .1, slot .1, device .1, c .before .before .before .before .before .before .before .before .before .before .before .before .before .before .before .before .wide-index .ensures) (joined (take (a .at) (a .text .now)) (deviceText (a .device)) (hexOf 1 (a .slot)) (column 8 (a .address)) (column 9 (a .size)) ended))
+    (search needs, rw (line .1, size .1, address .1, slot .1, device .1, c .before .before .before .before .before .before .before .before .before .before .before .before .before .before .before .before .wide-index .ensures) (joined (take (a .at) (a .text .now)) (deviceText (a .device)) (hexOf 1 (a .slot) ∷ column 8 (a .address) ∷ column 9 (a .size) ∷ ended ∷ [])))
 
 pub put-bar-spec : {M : Type 1} → statement M
 put-bar-spec =

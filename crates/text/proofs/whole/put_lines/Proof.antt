@@ -6,8 +6,8 @@ use native.Mathlib.Omega.{arith}
 use lib.ListN.{length, take}
 use Rattle.placement.specs.Keys.{keyCount}
 use Rattle.text.specs.Line.{barLength}
-use Rattle.text.specs.Text.{linesBelow}
-use Rattle.text.proofs.Writes.{lines-none, lines-more}
+use Rattle.text.specs.Text.{lineAt, linesBelow}
+use Rattle.text.proofs.Writes.{parts-none, parts-more}
 use Rattle.text.proofs.whole.put_lines.Statement.{statement}
 use Rattle.text.proofs.whole.put_lines.Tie as tie
 
@@ -21,7 +21,7 @@ abbrev μ-loop : tie.MeasureT-loop
 loop-holds : tie.Need-loop-holds Inv-loop μ-loop
 loop-holds c =
     let a = c .before .args in
-    (omega arith, omega arith, refl, sym (lines-none (take (a .at) (a .text .now)) (a .shown)))
+    (omega arith, omega arith, refl, sym (parts-none (take (a .at) (a .text .now)) (lineAt (a .shown))))
 
 put-key-requires : tie.Need-put-key-requires Inv-loop μ-loop
 put-key-requires c κs = (omega arith, omega arith)
@@ -37,7 +37,7 @@ loop-again c =
     let a = c .before .before .before .before .before .before .before .args in
     let l = c .before .before .before .before .before .loop in
     let k = c .before .before .put-key .ensures in
-    (omega arith, omega (arith, k .0), c .before .text .given ∙ l .inv .2, rw (k .1, l .inv .3) (lines-more (take (a .at) (a .text .now)) (a .shown) (l .key)))
+    (omega arith, omega (arith, k .0), c .before .text .given ∙ l .inv .2, rw (k .1, l .inv .3) (parts-more (take (a .at) (a .text .now)) (lineAt (a .shown)) (l .key)))
 
 same-length : tie.Need-same-length Inv-loop μ-loop
 same-length c = c .before .loop .inv .2
