@@ -48,6 +48,7 @@ fn word_at_command() -> Question {
     let write = Op::Write { offset: 4, width: 2, value: 0xffff, accept: false };
     Question::Function {
         function: Function::default(),
+        now: vec![],
         revision: 0,
         ops: vec![write, Op::Read { offset: 4, width: 2 }],
     }
@@ -57,7 +58,7 @@ fn command_0406() -> Story {
     let mut shown = [0; 256];
     shown[4..6].copy_from_slice(&[0x06, 0x04]);
     let end = End { shown, addresses: [None; 6], revision: 1, command: [true; 3] };
-    Story { answers: vec![Answer::Done, Answer::Value(0x0406)], ends: vec![end] }
+    Story { answers: vec![Answer::Done, Answer::Value(0x0406)], ends: vec![end], after: None }
 }
 
 /// P8's effect: offset 3, length 2 in a capability at 0x40.

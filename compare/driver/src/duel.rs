@@ -10,7 +10,9 @@ use crate::tally::Tally;
 #[derive(Debug)]
 pub struct Difference {
     pub question: Question,
-    pub left: Asked<Reply>,
+    /// What was expected, of the left side or of the second.
+    pub expected: Asked<Reply>,
+    pub by_second: bool,
     pub right: Asked<Reply>,
 }
 
@@ -19,9 +21,11 @@ pub type Checked = Result<(), Box<Difference>>;
 
 pub struct Duel<'a> {
     left: &'a mut dyn Rules,
-    /// Who is asked in its place where the left side has no such input.
+    /// Who is asked in its place where the left side has no such input; on a bus always, since it tells more.
     second: Option<&'a mut dyn Rules>,
     right: &'a mut dyn Rules,
+    /// Whether a difference is made small.
+    pub shrinks: bool,
     /// Only every n-th of a fixed list; 1 for all.
     pub every: u64,
     offered: u64,
@@ -44,6 +48,7 @@ impl<'a> Duel<'a> {
             left,
             second: None,
             right,
+            shrinks: true,
             every,
             offered: 0,
             asked: 0,
@@ -68,25 +73,29 @@ impl<'a> Duel<'a> {
     }
 
     pub fn put(&mut self, question: &Question) -> Checked {
-        let Some((expected, by_left)) = self.expected(question) else {
+        let expected = self.expected(question);
+        let Some((by_second, _)) = expected.first() else {
             self.not_asked += 1;
             return Ok(());
         };
+        *(if *by_second { &mut self.by_second } else { &mut self.asked }) += 1;
         if self.differs(&expected, question) {
             return Err(Box::new(self.smallest(question.clone())));
         }
-        *(if by_left { &mut self.asked } else { &mut self.by_second }) += 1;
-        self.tally.count(&expected);
+        // The last one tells most.
+        expected.last().into_iter().for_each(|(_, reply)| self.tally.count(reply));
         self.progress();
         Ok(())
     }
 
-    /// The left side's answer, or the second's; and whether it is the left side's.
-    fn expected(&mut self, question: &Question) -> Option<(Reply, bool)> {
-        if let Some(reply) = ask(self.left, question) {
-            return Some((reply, true));
+    /// The left side's answer, then the second's where it is wanted; each with whether it is the second's.
+    fn expected(&mut self, question: &Question) -> Vec<(bool, Reply)> {
+        let mut out: Vec<_> = ask(self.left, question).map(|reply| (false, reply)).into_iter().collect();
+        let wanted = out.is_empty() || matches!(question, Question::Bus { .. });
+        if let Some(second) = self.second.as_mut().filter(|_| wanted) {
+            out.extend(ask(*second, question).map(|reply| (true, reply)));
         }
-        Some((ask(*self.second.as_mut()?, question)?, false))
+        out
     }
 
     pub fn seconds(&self) -> f64 {
@@ -94,27 +103,34 @@ impl<'a> Duel<'a> {
     }
 
     /// The right side has to answer whatever is expected of it.
-    fn differs(&mut self, expected: &Reply, question: &Question) -> bool {
-        !ask(self.right, question).is_some_and(|right| agree(expected, &right))
+    fn differs(&mut self, expected: &[(bool, Reply)], question: &Question) -> bool {
+        let right = ask(self.right, question);
+        expected.iter().any(|(_, reply)| !right.as_ref().is_some_and(|right| agree(reply, right)))
     }
 
     fn smallest(&mut self, mut question: Question) -> Difference {
-        let mut still =
-            |less: &Question| self.expected(less).is_some_and(|(expected, _)| self.differs(&expected, less));
-        while let Some(smaller) = question.smaller().into_iter().find(&mut still) {
+        let shrinks = self.shrinks;
+        let mut still = |less: &Question| {
+            let expected = self.expected(less);
+            self.differs(&expected, less)
+        };
+        while let Some(smaller) = shrinks.then(|| question.smaller().into_iter().find(&mut still)).flatten() {
             question = smaller;
         }
-        let left = self.expected(&question).map(|(reply, _)| reply);
         let right = ask(self.right, &question);
-        Difference { question, left, right }
+        let differs = |(_, reply): &(bool, Reply)| !right.as_ref().is_some_and(|right| agree(reply, right));
+        let found = self.expected(&question).into_iter().find(differs);
+        let by_second = found.as_ref().is_some_and(|(by_second, _)| *by_second);
+        Difference { question, expected: found.map(|(_, reply)| reply), by_second, right }
     }
 
     fn progress(&mut self) {
         const PAUSE: Duration = Duration::from_secs(10);
-        if self.label.is_empty() || !self.asked.is_multiple_of(1024) || self.told.elapsed() < PAUSE {
+        if self.label.is_empty() || !(self.asked + self.by_second).is_multiple_of(1024) || self.told.elapsed() < PAUSE {
             return;
         }
         self.told = Instant::now();
-        eprintln!("  .. {} {} inputs, {:.0} a second", self.label, self.asked, self.asked as f64 / self.seconds());
+        let count = self.asked + self.by_second;
+        eprintln!("  .. {} {count} inputs, {:.0} a second", self.label, count as f64 / self.seconds());
     }
 }

@@ -89,11 +89,11 @@ fn seen(reply: Option<&Reply>) -> String {
     }
 }
 
-fn write(offset: u16, width: u8, value: u64) -> BusOp {
+fn write(offset: u64, width: u64, value: u64) -> BusOp {
     BusOp::Write { device: 0, offset, width, value }
 }
 
-fn read(offset: u16, width: u8) -> BusOp {
+fn read(offset: u64, width: u64) -> BusOp {
     BusOp::Read { device: 0, offset, width }
 }
 
@@ -129,7 +129,7 @@ fn agreed() -> Vec<(&'static str, Question, &'static str)> {
         (
             "words 0xffff at 0x10 and at 0x12",
             on_bus(vec![write(0x10, 2, 0xffff), write(0x12, 2, 0xffff), read(0x10, 4)]),
-            "[Kept { slot: 0, candidate: fff0 }, Kept { slot: 0, candidate: ffff0010 }, Value(10)]",
+            "[Stayed { slot: 0, address: 10 }, Stayed { slot: 0, address: 10 }, Value(10)]",
         ),
         (
             "BAR of 32 := misaligned, outside, taken",
@@ -141,8 +141,8 @@ fn agreed() -> Vec<(&'static str, Question, &'static str)> {
                 write(0x14, 4, 0),
                 read(0x14, 4),
             ]),
-            "[Kept { slot: 1, candidate: 50 }, Value(20), Kept { slot: 1, candidate: 80 }, Value(20), \
-             Kept { slot: 1, candidate: 0 }, Value(20)]",
+            "[Stayed { slot: 1, address: 20 }, Value(20), Stayed { slot: 1, address: 20 }, Value(20), \
+             Stayed { slot: 1, address: 20 }, Value(20)]",
         ),
         (
             "lookup while probing",
@@ -160,6 +160,7 @@ fn agreed() -> Vec<(&'static str, Question, &'static str)> {
             "pin 2",
             Question::Function {
                 function: Function { intx, ..Function::default() },
+                now: vec![],
                 revision: 0,
                 ops: vec![Op::Read { offset: 0x3d, width: 1 }],
             },

@@ -5,6 +5,7 @@ mod bar;
 mod bus;
 mod capability;
 mod declared;
+mod file;
 mod function;
 mod placement;
 
@@ -19,8 +20,16 @@ pub struct Rule {
     /// Document 01's numbers, or what the rule is.
     pub about: &'static str,
     pub fixed: fn(&mut Duel) -> Checked,
-    /// None where the fixed list has every input.
-    pub random: Option<fn(&mut Random) -> Question>,
+    pub random: Draw,
+}
+
+/// The random inputs of a rule.
+pub enum Draw {
+    /// The fixed list has every input.
+    Nothing,
+    One(fn(&mut Random) -> Question),
+    /// Puts many at a time, ten times as many in all.
+    Many(fn(&mut Random, &mut Duel) -> Checked),
 }
 
 /// The largest counts of document 01, in one place for the day they change.
@@ -55,41 +64,47 @@ pub fn within_limits(question: &Question) -> bool {
     }
 }
 
-pub const RULES: [Rule; 16] = [
-    Rule { name: "check", about: "18", fixed: access::check, random: None },
-    Rule { name: "size_ok", about: "7", fixed: bar::size_ok, random: Some(bar::random_size) },
-    Rule { name: "size_mask", about: "size mask", fixed: bar::size_mask, random: None },
-    Rule { name: "shown", about: "BAR register", fixed: bar::shown, random: Some(bar::random_shown) },
-    Rule { name: "bar_write", about: "probe or relocate", fixed: bar::write, random: Some(bar::random_write) },
-    Rule { name: "body_ok", about: "10", fixed: capability::body_ok, random: None },
+pub const RULES: [Rule; 17] = [
+    Rule { name: "check", about: "18", fixed: access::check, random: Draw::Nothing },
+    Rule { name: "size_ok", about: "7", fixed: bar::size_ok, random: Draw::One(bar::random_size) },
+    Rule { name: "size_mask", about: "size mask", fixed: bar::size_mask, random: Draw::Nothing },
+    Rule { name: "shown", about: "BAR register", fixed: bar::shown, random: Draw::One(bar::random_shown) },
+    Rule { name: "bar_write", about: "probe or relocate", fixed: bar::write, random: Draw::One(bar::random_write) },
+    Rule { name: "body_ok", about: "10", fixed: capability::body_ok, random: Draw::Nothing },
     Rule {
         name: "first_bad_effect",
         about: "11",
         fixed: capability::effects,
-        random: Some(capability::random_effects),
+        random: Draw::One(capability::random_effects),
     },
-    Rule { name: "layout", about: "12, 13", fixed: capability::layout, random: Some(capability::random_layout) },
-    Rule { name: "effect_for", about: "19", fixed: capability::touch, random: Some(capability::random_touch) },
-    Rule { name: "modes", about: "byte modes", fixed: capability::modes, random: Some(capability::random_modes) },
-    Rule { name: "view", about: "capability view", fixed: capability::view, random: Some(capability::random_view) },
-    Rule { name: "place", about: "14 to 17", fixed: placement::place, random: Some(placement::random_place) },
+    Rule { name: "layout", about: "12, 13", fixed: capability::layout, random: Draw::One(capability::random_layout) },
+    Rule { name: "effect_for", about: "19", fixed: capability::touch, random: Draw::One(capability::random_touch) },
+    Rule { name: "modes", about: "byte modes", fixed: capability::modes, random: Draw::One(capability::random_modes) },
+    Rule {
+        name: "view",
+        about: "capability view",
+        fixed: capability::view,
+        random: Draw::One(capability::random_view),
+    },
+    Rule { name: "place", about: "14 to 17", fixed: placement::place, random: Draw::One(placement::random_place) },
     Rule {
         name: "first_bad_byte",
         about: "9",
         fixed: function::config_bytes,
-        random: Some(function::random_config_bytes),
+        random: Draw::One(function::random_config_bytes),
     },
     Rule {
         name: "power_on",
         about: "image and masks",
         fixed: function::power_on,
-        random: Some(function::random_power_on),
+        random: Draw::One(function::random_power_on),
     },
     Rule {
         name: "function",
         about: "steps on a function",
         fixed: function::steps,
-        random: Some(function::random_steps),
+        random: Draw::One(function::random_steps),
     },
-    Rule { name: "bus", about: "steps on a bus", fixed: bus::steps, random: Some(bus::random_steps) },
+    Rule { name: "bus", about: "steps on a bus", fixed: bus::steps, random: Draw::One(bus::random_steps) },
+    Rule { name: "file", about: "1 to 17", fixed: file::short, random: Draw::Many(file::random_family) },
 ];

@@ -37,7 +37,7 @@ fn with_the_model(plan: &Plan) -> bool {
         left: ("the Rust", &mut Oracle),
         second: None,
         right: ("the model", &mut Model),
-        lacks: |rule| (rule == "first_bad_byte").then_some("such rule in the Rust"),
+        lacks: |rule| ["first_bad_byte", "file"].contains(&rule).then_some("such rule in the Rust"),
     })
 }
 

@@ -6,7 +6,7 @@ use rules::{Random, Rules, Vary};
 
 use crate::{
     duel::{Checked, Duel},
-    inputs::{RULES, Rule, within_limits},
+    inputs::{Draw, RULES, Rule, within_limits},
 };
 
 pub struct Plan {
@@ -64,8 +64,12 @@ impl Plan {
     /// Fixed lists, then random inputs, then damaged copies of such.
     pub fn run(&self, rule: &Rule, duel: &mut Duel) -> Checked {
         (rule.fixed)(duel)?;
-        let Some(input) = rule.random else { return Ok(()) };
         let mut random = Random::new(seed_of(self.seed, rule.name));
+        let input = match rule.random {
+            Draw::Nothing => return Ok(()),
+            Draw::One(input) => input,
+            Draw::Many(inputs) => return self.until(10 * self.random, duel, |duel| inputs(&mut random, duel)),
+        };
         self.until(self.random, duel, |duel| duel.put(&input(&mut random)))?;
         self.until(self.random / 4, duel, |duel| {
             let mut question = input(&mut random);
@@ -80,7 +84,7 @@ impl Plan {
     fn until(&self, count: u64, duel: &mut Duel, mut one: impl FnMut(&mut Duel) -> Checked) -> Checked {
         let (began, beyond) = (duel.asked, duel.by_second + count);
         for _ in 0..8 * count {
-            if duel.asked == began + count || duel.asked == began && duel.by_second == beyond {
+            if duel.asked >= began + count || duel.asked == began && duel.by_second >= beyond {
                 break;
             }
             one(duel)?;
@@ -99,7 +103,9 @@ impl Plan {
         let (mut all, mut beyond, mut without) = (0, 0, 0);
         println!("{left_name} and {right_name}, seed {}", self.seed);
         if let Some((name, _)) = &second {
-            println!("Where {left_name} has no such input, {name} is asked: column `beyond`.");
+            println!(
+                "Where {left_name} has no such input, {name} is asked: column `beyond`. On a bus {name} is asked too."
+            );
         }
         println!("{:18}{:>10}{:>10}{:>10}{:>11}  about", "rule", "inputs", "beyond", "a second", "not asked");
         for rule in self.rules() {
@@ -108,9 +114,9 @@ impl Plan {
                 without += 1;
                 continue;
             }
-            let another: Option<&mut dyn Rules> = match &mut second {
-                Some((_, side)) => Some(&mut **side),
-                None => None,
+            let (second_name, another): (_, Option<&mut dyn Rules>) = match &mut second {
+                Some((name, side)) => (*name, Some(&mut **side)),
+                None => ("", None),
             };
             let mut duel = Duel::new(left, right, self.every, rule.name).or_ask(another);
             let checked = self.run(rule, &mut duel);
@@ -120,7 +126,7 @@ impl Plan {
             println!("{:18}{asked:>10}{by_second:>10}{rate:>10.0}{not_asked:>11}  {}", rule.name, rule.about);
             println!("    {}", duel.tally);
             if let Err(difference) = checked {
-                difference.tell(left_name, right_name);
+                difference.tell(left_name, second_name, right_name);
                 return false;
             }
             all += asked;

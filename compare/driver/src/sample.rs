@@ -4,7 +4,10 @@
 
 use rules::{BarNow, BarWrite, PlaceRefusal, Question, Random, Request, Rules, Wish};
 
-use crate::{inputs::RULES, plan::seed_of};
+use crate::{
+    inputs::{Draw, RULES},
+    plan::seed_of,
+};
 
 /// "vgreplay" in bytes.
 const MAGIC: u64 = u64::from_le_bytes(*b"vgreplay");
@@ -33,7 +36,8 @@ pub fn file(rust: &mut dyn Rules, seed: u64) -> Vec<u8> {
 
 /// Random questions of a rule, without end.
 fn questions(seed: u64, name: &str) -> impl Iterator<Item = Question> {
-    let input = RULES.iter().find(|rule| rule.name == name).and_then(|rule| rule.random).expect("a rule with inputs");
+    let rule = RULES.iter().find(|rule| rule.name == name).expect("a rule of that name");
+    let Draw::One(input) = rule.random else { panic!("a rule with single inputs") };
     let mut random = Random::new(seed_of(seed, name));
     std::iter::repeat_with(move || input(&mut random))
 }

@@ -36,6 +36,8 @@ fn kind(reply: &Reply) -> &'static str {
         Reply::Touch(Touch::Refused) => "19",
         Reply::Place(Ok(_)) => "placed",
         Reply::Place(Err(refusal)) => number(refusal.number),
+        Reply::File(Ok(_)) => "started",
+        Reply::File(Err(refusal)) => number(refusal.number),
         Reply::Dword(_) | Reply::Modes(_) | Reply::View(_) | Reply::Image(_) | Reply::Story(_) => "given",
     }
 }
@@ -46,10 +48,11 @@ fn answer_kind(answer: &Answer) -> &'static str {
         Answer::Value(_) => "read",
         Answer::Inside(_) => "inside",
         Answer::Done => "done",
+        Answer::Dropped => "dropped",
         Answer::Written => "written",
         Answer::Probing { .. } => "probing",
         Answer::Moved { .. } => "moved",
-        Answer::Kept { .. } => "kept",
+        Answer::Kept { .. } | Answer::Stayed { .. } => "kept",
         Answer::ResetAtLargest { .. } => "20 by reset",
         Answer::Hit { .. } => "hit",
         Answer::Miss => "miss",
@@ -57,9 +60,11 @@ fn answer_kind(answer: &Answer) -> &'static str {
 }
 
 fn number(refusal: u8) -> &'static str {
-    ["12", "13", "14", "15", "16", "17", "18", "19", "20"]
-        .get(usize::from(refusal) - 12)
-        .expect("a refusal that is asked")
+    const NUMBERS: [&str; 21] = [
+        "0", "1", "2", "3", "4", "5", "6", "7", "8", "9", "10", "11", "12", "13", "14", "15", "16", "17", "18", "19",
+        "20",
+    ];
+    NUMBERS[usize::from(refusal)]
 }
 
 impl fmt::Display for Tally {

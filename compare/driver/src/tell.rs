@@ -1,21 +1,22 @@
 //! A difference, told so that a reader sees where it lies.
 
-use rules::{Asked, End, Image, Question, Reply, Story};
+use rules::{After, Asked, End, Image, Kept, Question, Reply, Started, Story};
 
 use crate::duel::Difference;
 
 impl Difference {
-    pub fn tell(&self, left: &str, right: &str) {
+    pub fn tell(&self, left: &str, second: &str, right: &str) {
         println!("DIFFERENT, numbers in hexadecimal\n  asked {}", self.question.shortened());
-        let (left_says, right_says) = self.replies();
-        println!("  {left}: {left_says}\n  {right}: {right_says}");
+        let (expected, right_says) = self.replies();
+        println!("  {}: {expected}\n  {right}: {right_says}", if self.by_second { second } else { left });
     }
 
     /// What each side says, where they differ.
     pub fn replies(&self) -> (String, String) {
-        match (&self.left, &self.right) {
+        match (&self.expected, &self.right) {
             (Some(Reply::Image(left)), Some(Reply::Image(right))) => (image(left, right), image(right, left)),
             (Some(Reply::Story(left)), Some(Reply::Story(right))) => (story(left, right), story(right, left)),
+            (Some(Reply::File(Ok(left))), Some(Reply::File(Ok(right)))) => (started(left, right), started(right, left)),
             (left, right) => (whole(left), whole(right)),
         }
     }
@@ -41,7 +42,30 @@ fn story(one: &Story, other: &Story) -> String {
     let answers = answers.filter(|(_, (a, b))| a != b).map(|(at, (a, _))| format!("step {at} {a:x?}"));
     let ends = one.ends.iter().zip(&other.ends).enumerate();
     let ends = ends.filter(|(_, (a, b))| a != b).map(|(at, (a, b))| format!("end {at} {}", end(a, b)));
-    answers.chain(ends).collect::<Vec<_>>().join("; ")
+    let after = one.after.iter().flatten().zip(other.after.iter().flatten()).enumerate();
+    let after = after.filter(|(_, (a, b))| a != b).map(|(at, (a, b))| format!("after {at} steps {}", then(a, b)));
+    answers.chain(ends).chain(after).collect::<Vec<_>>().join("; ")
+}
+
+fn then(one: &After, other: &After) -> String {
+    let differ = one.changed.iter().filter(|it| !other.changed.contains(it));
+    let changed = differ.map(|it| kept(it, other.changed.iter().find(|also| also.device == it.device)));
+    let found = (one.found != other.found).then(|| format!("found {:x?}", one.found));
+    changed.chain(found).collect::<Vec<_>>().join(", ")
+}
+
+/// A function on a bus; whole if the other side has none.
+fn kept(one: &Kept, other: Option<&Kept>) -> String {
+    let Some(other) = other else { return format!("{one:x?}") };
+    let rest = (one.bars, &one.capabilities, &one.effects, one.revision);
+    let images = [(&one.live, &other.live), (&one.power_on, &other.power_on), (&one.masks, &other.masks)];
+    let [live, power_on, masks] = images.map(|(one, other)| bytes(one, other));
+    format!("device {:x} live {live}, power-on {power_on}, masks {masks}, then {rest:x?}", one.device)
+}
+
+fn started(one: &Started, other: &Started) -> String {
+    let after = |it: &Started| After { changed: it.functions.clone(), found: None };
+    format!("{:x?} {}", one.aperture, then(&after(one), &after(other)))
 }
 
 fn end(one: &End, other: &End) -> String {

@@ -1,6 +1,6 @@
 //! Refusal 18, and numbers in bytes.
 
-pub fn check(offset: u32, width: u32) -> bool {
+pub fn check(offset: u64, width: u64) -> bool {
     offset < 0x100 && [1, 2, 4].contains(&width) && offset.is_multiple_of(width)
 }
 

@@ -1,6 +1,6 @@
 //! One function's state: reads, writes, reset, revision.
 
-use rules::{Answer, BarNow, BarWrite, End, Function, Image, Op, Touch};
+use rules::{Answer, BarNow, BarWrite, End, Function, Image, Kept, KeptBar, Now, Op, Touch};
 
 use super::{
     access::{check, read, store},
@@ -29,6 +29,14 @@ impl State {
         }
         let (live, owners) = (power_on.bytes, owners(&placed));
         Some(Self { power_on, live, placed, owners, planned: bars, bars, revision })
+    }
+
+    /// Puts a BAR where the steps begin; none if there is no such BAR.
+    pub fn begin(&mut self, now: Now) -> Option<()> {
+        let bar = self.bars.get_mut(usize::from(now.slot))?.as_mut()?;
+        let Now { address, probing, .. } = now;
+        *bar = BarNow { address, probing, ..*bar };
+        u64::from(address).is_multiple_of(bar.size).then_some(())
     }
 
     /// A step whose relocations are accepted as the question says.
@@ -111,6 +119,26 @@ impl State {
         let next = self.revision.checked_add(1);
         self.revision = next.unwrap_or(self.revision);
         next.is_some()
+    }
+
+    pub fn kept(&self, device: u8) -> Kept {
+        let bar = |slot: usize| {
+            let (planned, bar) = (self.planned[slot]?, self.bars[slot]?);
+            let (planned, address) = (planned.address.into(), bar.address.into());
+            Some(KeptBar { size: bar.size, planned, address, probing: bar.probing })
+        };
+        let effects =
+            self.placed.iter().enumerate().flat_map(|(at, (it, _))| it.effects.iter().map(move |it| (at as u8, *it)));
+        Kept {
+            device,
+            live: self.live,
+            power_on: self.power_on.bytes,
+            masks: self.power_on.masks,
+            bars: std::array::from_fn(bar),
+            capabilities: self.placed.iter().map(|(it, at)| (it.id, *at as u16, it.body.len() as u8)).collect(),
+            effects: effects.collect(),
+            revision: self.revision,
+        }
     }
 
     pub fn end(&self) -> End {

@@ -5,6 +5,7 @@ mod access;
 mod bar;
 mod bus;
 mod capability;
+mod file;
 mod function;
 mod image;
 mod placement;
@@ -15,7 +16,7 @@ pub struct Model;
 
 impl Rules for Model {
     fn check(&mut self, offset: u32, width: u32) -> Asked<bool> {
-        Some(access::check(offset, width))
+        Some(access::check(offset.into(), width.into()))
     }
 
     fn size_ok(&mut self, size: u64) -> Asked<bool> {
@@ -75,15 +76,30 @@ impl Rules for Model {
         Some(image::power_on(function, &image::declarable(function)?))
     }
 
-    fn function(&mut self, function: &Function, revision: u64, ops: &[Op]) -> Asked<Story> {
+    fn function(&mut self, function: &Function, now: &[Now], revision: u64, ops: &[Op]) -> Asked<Story> {
         let mut state = function::State::new(function, revision)?;
+        now.iter().try_for_each(|now| state.begin(*now))?;
         let answers = ops.iter().map(|op| state.step(*op)).collect();
-        Some(Story { answers, ends: vec![state.end()] })
+        Some(Story { answers, ends: vec![state.end()], after: None })
     }
 
     fn bus(&mut self, aperture: Aperture, cards: &[Card], ops: &[BusOp]) -> Asked<Story> {
         let mut bus = bus::Bus::new(aperture, cards)?;
-        let answers = ops.iter().map(|op| bus.step(*op)).collect();
-        Some(Story { answers, ends: bus.ends(cards) })
+        let mut after = vec![bus.start()];
+        let step = |op: &BusOp| {
+            let (answer, then) = bus.told(*op, after.len());
+            after.push(then);
+            answer
+        };
+        let answers = ops.iter().map(step).collect();
+        Some(Story { answers, ends: bus.ends(cards), after: Some(after) })
+    }
+
+    fn file(&mut self, bytes: &[u8]) -> Asked<Result<Started, FileRefusal>> {
+        let (aperture, cards) = match file::declared(bytes) {
+            Ok(declared) => declared,
+            Err(refusal) => return Some(Err(refusal)),
+        };
+        Some(Ok(Started { aperture, functions: bus::Bus::new(aperture, &cards)?.start().changed }))
     }
 }

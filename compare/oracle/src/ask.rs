@@ -7,6 +7,8 @@ mod capability;
 mod function;
 mod placement;
 
+pub(crate) use bus::{bdf, start};
+
 use rules::*;
 
 pub struct Oracle;
@@ -69,11 +71,16 @@ impl Rules for Oracle {
         function::power_on(function)
     }
 
-    fn function(&mut self, function: &Function, revision: u64, ops: &[Op]) -> Asked<Story> {
-        function::story(function, revision, ops)
+    fn function(&mut self, function: &Function, now: &[Now], revision: u64, ops: &[Op]) -> Asked<Story> {
+        function::story(function, now, revision, ops)
     }
 
     fn bus(&mut self, aperture: Aperture, cards: &[Card], ops: &[BusOp]) -> Asked<Story> {
         bus::story(aperture, cards, ops)
+    }
+
+    /// The Rust reads no files.
+    fn file(&mut self, _: &[u8]) -> Asked<Result<Started, FileRefusal>> {
+        None
     }
 }

@@ -9,6 +9,7 @@ mod ask;
 pub mod beyond;
 mod pci;
 mod stand_ins;
+pub mod timed;
 
 pub use ask::Oracle;
 pub use stand_ins::{AccessWidth, DeviceId, DeviceNodeId, ResourceRequest, SpinLock};

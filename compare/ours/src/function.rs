@@ -1,7 +1,7 @@
 //! One function: the power-on image, and steps on it.
 
 use library::{BODY_SPACE, BarState, Bars, CONFIG_BYTES, ContentsNumbers, FunctionState, HEADER, Plan, SPACE, Slot};
-use rules::{Answer, Bar, End, Function, Image, Op, Story};
+use rules::{Answer, Bar, End, Function, Image, Now, Op, Story};
 
 use super::{
     capability::{placed, spread, touched},
@@ -77,10 +77,14 @@ fn start(function: &Function, revision: u64) -> Option<FunctionState> {
     Some(FunctionState { revision, ..library::start(power_on, bars, placed)? })
 }
 
-pub fn story(function: &Function, revision: u64, ops: &[Op]) -> Option<Story> {
+pub fn story(function: &Function, now: &[Now], revision: u64, ops: &[Op]) -> Option<Story> {
     let mut state = start(function, revision)?;
+    for now in now {
+        let bar = state.bars.get_mut(usize::from(now.slot))?;
+        (bar.address, bar.probing) = (now.address.into(), now.probing);
+    }
     let answers = ops.iter().map(|op| step(&mut state, *op)).collect::<Option<_>>()?;
-    Some(Story { answers, ends: vec![end(state)?] })
+    Some(Story { answers, ends: vec![end(state)?], after: None })
 }
 
 fn step(state: &mut FunctionState, op: Op) -> Option<Answer> {

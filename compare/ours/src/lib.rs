@@ -1,6 +1,9 @@
-//! The proved library behind `Rules`. A rule whose functions the library does not have yet is answered by none.
+//! The proved library behind `Rules`: buses and files by the crate `voussglen`, the parts by the crate `harness`.
+//! A rule whose functions the library does not have yet is answered by none.
 
+mod bus;
 mod capability;
+mod file;
 mod function;
 mod needs;
 mod placement;
@@ -75,12 +78,15 @@ impl Rules for Ours {
         function::power_on(function)
     }
 
-    fn function(&mut self, function: &Function, revision: u64, ops: &[Op]) -> Asked<Story> {
-        function::story(function, revision, ops)
+    fn function(&mut self, function: &Function, now: &[Now], revision: u64, ops: &[Op]) -> Asked<Story> {
+        function::story(function, now, revision, ops)
     }
 
-    /// The library has no bus yet.
-    fn bus(&mut self, _: Aperture, _: &[Card], _: &[BusOp]) -> Asked<Story> {
-        None
+    fn bus(&mut self, aperture: Aperture, cards: &[Card], ops: &[BusOp]) -> Asked<Story> {
+        bus::story(aperture, cards, ops)
+    }
+
+    fn file(&mut self, bytes: &[u8]) -> Asked<Result<Started, FileRefusal>> {
+        file::started(bytes)
     }
 }

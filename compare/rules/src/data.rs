@@ -61,6 +61,15 @@ pub struct BarNow {
     pub probing: bool,
 }
 
+/// A BAR that is not as at power-on when the steps begin.
+#[derive(Clone, Copy, Debug, PartialEq, Eq)]
+pub struct Now {
+    pub slot: u8,
+    /// A multiple of size, as an accepted relocation leaves it.
+    pub address: u32,
+    pub probing: bool,
+}
+
 #[derive(Clone, Copy, Debug, PartialEq, Eq)]
 pub enum Request {
     Auto,
@@ -110,12 +119,12 @@ pub enum Op {
     Reset,
 }
 
-/// One step on the bus.
+/// One step on the bus. Any number can be asked.
 #[derive(Clone, Copy, Debug, PartialEq, Eq)]
 pub enum BusOp {
-    Read { device: u8, offset: u16, width: u8 },
-    Write { device: u8, offset: u16, width: u8, value: u64 },
-    Lookup { address: u64, width: u8 },
+    Read { device: u64, offset: u64, width: u64 },
+    Write { device: u64, offset: u64, width: u64, value: u64 },
+    Lookup { address: u64, width: u64 },
     Reset,
 }
 

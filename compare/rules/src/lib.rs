@@ -3,6 +3,7 @@
 
 mod answer;
 mod data;
+mod declaration;
 mod question;
 mod random;
 mod side;
@@ -10,6 +11,7 @@ mod vary;
 
 pub use answer::*;
 pub use data::*;
+pub use declaration::fields;
 pub use question::*;
 pub use random::Random;
 pub use side::*;

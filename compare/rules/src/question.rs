@@ -19,8 +19,9 @@ pub enum Question {
     Place { aperture: Aperture, wishes: Vec<Wish> },
     FirstBadByte { function: Function },
     PowerOn { function: Function },
-    Function { function: Function, revision: u64, ops: Vec<Op> },
+    Function { function: Function, now: Vec<Now>, revision: u64, ops: Vec<Op> },
     Bus { aperture: Aperture, cards: Vec<Card>, ops: Vec<BusOp> },
+    File { bytes: Vec<u8> },
 }
 
 #[derive(Debug, PartialEq, Eq)]
@@ -36,6 +37,7 @@ pub enum Reply {
     Place(Result<Vec<u64>, PlaceRefusal>),
     Image(Box<Image>),
     Story(Story),
+    File(Result<Started, FileRefusal>),
 }
 
 /// Puts the question to one side.
@@ -58,19 +60,22 @@ pub fn ask(side: &mut dyn Rules, question: &Question) -> Asked<Reply> {
         Q::Place { aperture, wishes } => Reply::Place(side.place(*aperture, wishes)?),
         Q::FirstBadByte { function } => Reply::FirstBad(side.first_bad_byte(function)?),
         Q::PowerOn { function } => Reply::Image(Box::new(side.power_on(function)?)),
-        Q::Function { function, revision, ops } => Reply::Story(side.function(function, *revision, ops)?),
+        Q::Function { function, now, revision, ops } => Reply::Story(side.function(function, now, *revision, ops)?),
         Q::Bus { aperture, cards, ops } => Reply::Story(side.bus(*aperture, cards, ops)?),
+        Q::File { bytes } => Reply::File(side.file(bytes)?),
     })
 }
 
-/// Equal, but that `Written` leaves open which of four it was. Later steps show it.
+/// Equal, but that `Written` leaves open which of five it was, and that the left side may not tell what came after a step.
 pub fn agree(left: &Reply, right: &Reply) -> bool {
     let (Reply::Story(left), Reply::Story(right)) = (left, right) else { return left == right };
     let written = |answer: &Answer| {
-        matches!(answer, Answer::Done | Answer::Probing { .. } | Answer::Moved { .. } | Answer::Kept { .. })
+        use Answer::*;
+        matches!(answer, Done | Dropped | Probing { .. } | Moved { .. } | Stayed { .. })
     };
     let same = |(left, right): (&Answer, &Answer)| left == right || *left == Answer::Written && written(right);
     left.ends == right.ends
+        && (left.after.is_none() || left.after == right.after)
         && left.answers.len() == right.answers.len()
         && left.answers.iter().zip(&right.answers).all(same)
 }

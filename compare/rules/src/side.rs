@@ -32,8 +32,10 @@ pub trait Rules {
     /// 9; the index of the first config byte that is refused.
     fn first_bad_byte(&mut self, function: &Function) -> Asked<Option<usize>>;
     fn power_on(&mut self, function: &Function) -> Asked<Image>;
-    /// Steps on one function from power-on; one end.
-    fn function(&mut self, function: &Function, revision: u64, ops: &[Op]) -> Asked<Story>;
+    /// Steps on one function; one end.
+    fn function(&mut self, function: &Function, now: &[Now], revision: u64, ops: &[Op]) -> Asked<Story>;
     /// Steps on a bus from power-on; an end for each card.
     fn bus(&mut self, aperture: Aperture, cards: &[Card], ops: &[BusOp]) -> Asked<Story>;
+    /// 1 to 17, or the bus at power-on.
+    fn file(&mut self, bytes: &[u8]) -> Asked<Result<Started, FileRefusal>>;
 }

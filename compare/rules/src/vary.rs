@@ -53,6 +53,16 @@ impl<T: Vary> Vary for Vec<T> {
             out.push(self[..self.len() / 2].to_vec());
             out.push(self[self.len() / 2..].to_vec());
         }
+        // A list so long has too many neighbours; it loses a part at a time, the last first.
+        const LONG: usize = 600;
+        if self.len() > LONG {
+            let part = self.len() / 16;
+            out.extend(
+                (0..=16).rev().map(|at| [&self[..at * part], self.get((at + 1) * part..).unwrap_or(&[])].concat()),
+            );
+            out.retain(|less| less.len() < self.len());
+            return out;
+        }
         for at in 0..self.len() {
             let mut fewer = self.clone();
             fewer.remove(at);
@@ -181,6 +191,7 @@ vary_struct!(Effect { id, offset, length, access });
 vary_struct!(ConfigByte { offset, value, mask });
 vary_struct!(Intx { pin, line });
 vary_struct!(Bar { slot, size, address });
+vary_struct!(Now { slot, address, probing });
 vary_struct!(BarNow { size, address, probing });
 vary_struct!(Wish { device, slot, size, request });
 vary_struct!(Aperture { start, end });
@@ -249,6 +260,7 @@ vary_enum!(Question {
     Place { wishes, aperture }
     FirstBadByte { function }
     PowerOn { function }
-    Function { ops, function, revision }
+    Function { ops, now, function, revision }
     Bus { ops, cards, aperture }
+    File { bytes }
 });

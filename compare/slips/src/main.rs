@@ -8,12 +8,13 @@ use std::{
 use driver::{Duel, Plan, Rule, Shortened};
 use model::Model;
 use oracle::Oracle;
+use ours::Ours;
 use rules::Rules;
 
 /// The model, or the wrappers of ours, with one slip.
 struct Slip {
     name: &'static str,
-    /// The rules that have to notice, by name.
+    /// The rules that have to notice, by name; "/ours" where the Rust has no such input, and only the library can.
     rules: &'static str,
     ours: bool,
     side: Box<dyn Rules>,
@@ -28,31 +29,56 @@ fn main() -> ExitCode {
     std::panic::set_hook(Box::new(|_| {}));
     let (mut count, mut missed) = (0, 0);
     for mut slip in all() {
-        for name in slip.rules.split_whitespace() {
+        for word in slip.rules.split_whitespace() {
+            let (name, only) = word.split_once('/').unwrap_or((word, ""));
             if let Some(what) = ours::lacks(name).filter(|_| slip.ours) {
                 println!("{:36}{name:18}not asked: there is no {what}", slip.name);
                 continue;
             }
             let rule = plan.rules().find(|rule| rule.name == name).expect("a rule of that name");
-            let how = noticed(&plan, rule, &mut slip);
-            count += 1;
-            missed += u32::from(how.is_none());
-            println!("{:36}{name:18}{}", slip.name, how.unwrap_or("NOT NOTICED".into()));
+            for beside in beside(&slip, name).iter().filter(|beside| only.is_empty() || **beside == Beside::Ours) {
+                let how = noticed(&plan, rule, &mut slip, *beside);
+                count += 1;
+                missed += u32::from(how.is_none());
+                let by = if *beside == Beside::Ours { "ours" } else { "the Rust" };
+                println!("{:36}{name:18}{by:10}{}", slip.name, how.unwrap_or("NOT NOTICED".into()));
+            }
         }
     }
     println!("{count} times a rule was to notice a slip, {missed} times it did not");
     if missed == 0 && count > 0 { ExitCode::SUCCESS } else { ExitCode::FAILURE }
 }
 
-fn noticed(plan: &Plan, rule: &Rule, slip: &mut Slip) -> Option<String> {
-    let (mut oracle, mut model) = (Oracle, Model);
-    // As in compare/run: the model speaks for the Rust only beside ours.
+/// Who stands beside a slip.
+#[derive(Clone, Copy, PartialEq, Eq)]
+enum Beside {
+    /// And the model, as in compare/run, if the slip is in the wrappers of ours.
+    Rust,
+    /// Which answers all that the model does; a slip in the model only.
+    Ours,
+}
+
+/// The Rust reads no files; on a bus the library tells more, and has to notice too.
+fn beside(slip: &Slip, rule: &str) -> &'static [Beside] {
+    match rule {
+        "bus" if !slip.ours => &[Beside::Rust, Beside::Ours],
+        "file" if !slip.ours => &[Beside::Ours],
+        _ => &[Beside::Rust],
+    }
+}
+
+fn noticed(plan: &Plan, rule: &Rule, slip: &mut Slip, beside: Beside) -> Option<String> {
+    let (mut oracle, mut model, mut ours) = (Oracle, Model, Ours);
+    let left: &mut dyn Rules = if beside == Beside::Ours { &mut ours } else { &mut oracle };
     let second: Option<&mut dyn Rules> = if slip.ours { Some(&mut model) } else { None };
-    let mut duel = Duel::new(&mut oracle, slip.side.as_mut(), plan.every, "").or_ask(second);
+    let mut duel = Duel::new(left, slip.side.as_mut(), plan.every, "").or_ask(second);
+    // The library copies a bus often, so that to make a history small takes long.
+    duel.shrinks = !["bus", "file"].contains(&rule.name);
     let run = catch_unwind(AssertUnwindSafe(|| plan.run(rule, &mut duel)));
-    let at = duel.asked + 1;
+    let at = duel.asked + duel.by_second;
     match run {
         Ok(Ok(())) => None,
+        Ok(Err(_)) if !duel.shrinks => Some(format!("input {at}")),
         Ok(Err(difference)) => Some(format!("input {at}, smallest {}", difference.question.shortened())),
         Err(_) => Some(format!("input {at}, by a panic")),
     }

@@ -167,6 +167,12 @@ impl Bus {
     pub fn raw(&self) -> &raw::Bus {
         &self.raw
     }
+
+    /// A bus from a struct that [`Bus::raw`] gave, to bring back one that was saved.
+    /// Any other struct is answered too; what it answers is then that struct's affair.
+    pub fn from_raw(raw: raw::Bus) -> Bus {
+        Bus { raw: Box::new(raw) }
+    }
 }
 
 const NO_BODY: raw::Snapshot = raw::Snapshot { length: 0, bytes: [0; raw::LONGEST_BODY] };
@@ -202,7 +208,9 @@ mod tests {
     #[test]
     fn an_exhausted_revision() {
         let mut bus = Bus::from_declaration(include_bytes!("../../../demo/run.declaration")).unwrap();
-        bus.raw.functions[1].revision = u64::MAX;
+        let mut raw = *bus.raw();
+        raw.functions[1].revision = u64::MAX;
+        bus = Bus::from_raw(raw);
         let refused = Refusal { number: 20, place: Place::Device(5) };
         let before = bus.clone();
         assert_eq!(bus.write(5, 0x04, 2, 2), Err(refused));

@@ -16,7 +16,18 @@ const APERTURE: Aperture = Aperture { start: BASE, end: BASE + 0x80 };
 pub fn steps(duel: &mut Duel) -> Checked {
     moves(duel)?;
     byte_while_probing(duel)?;
-    lookups_in_four_gib(duel)
+    lookups_in_four_gib(duel)?;
+    long_ones(duel)
+}
+
+/// Histories so long that a slow change would show; shorter where the lists are thinned.
+fn long_ones(duel: &mut Duel) -> Checked {
+    let mut random = Random::new(1);
+    let (count, steps) = if duel.every == 1 { (4, 100_000) } else { (1, 2_000) };
+    for _ in 0..count {
+        duel.put(&random_history(&mut random, MOST_FUNCTIONS, steps, Wild::Tame))?;
+    }
+    Ok(())
 }
 
 fn card(device: u8, bars: Vec<Bar>) -> Card {
@@ -30,7 +41,7 @@ fn cards() -> Vec<Card> {
 }
 
 /// Reads the register, looks everywhere around the aperture, and resets.
-fn look(device: u8, offset: u16) -> Vec<BusOp> {
+fn look(device: u64, offset: u64) -> Vec<BusOp> {
     let lookups = (0..0x90).step_by(8).map(|at| BusOp::Lookup { address: BASE - 8 + at, width: 4 });
     let read = BusOp::Read { device, offset, width: 4 };
     [read].into_iter().chain(lookups).chain([BusOp::Reset, read]).collect()
@@ -84,10 +95,31 @@ fn lookups_in_four_gib(duel: &mut Duel) -> Checked {
     Ok(())
 }
 
+/// Whether a history has what the Rust cannot be asked.
+#[derive(Clone, Copy, PartialEq, Eq)]
+enum Wild {
+    Tame,
+    /// Resets of revisions at their largest.
+    Largest,
+    /// Devices, offsets and widths beyond its types.
+    Numbers,
+}
+
+const STEPS: u64 = 24;
+
 pub fn random_steps(random: &mut Random) -> Question {
-    let (aperture, unit) = random_aperture(random);
     let most = if random.once_in(8) { MOST_FUNCTIONS } else { 3 };
+    let wild = match random.below(16) {
+        0 => Wild::Largest,
+        1 => Wild::Numbers,
+        _ => Wild::Tame,
+    };
     let count = 1 + random.below(most);
+    random_history(random, count, STEPS, wild)
+}
+
+fn random_history(random: &mut Random, count: u64, steps: u64, wild: Wild) -> Question {
+    let (aperture, unit) = random_aperture(random);
     let mut cards: Vec<Card> = Vec::new();
     let mut free = aperture.start;
     for _ in 0..count {
@@ -104,17 +136,49 @@ pub fn random_steps(random: &mut Random) -> Question {
                 free = address + size;
             }
         }
-        let revision = if random.once_in(16) { u64::MAX - random.below(4) } else { 0 };
+        let revision = if wild == Wild::Largest { u64::MAX - random.below(4) } else { 0 };
         cards.push(Card { device, revision, function: random_body(random, bars) });
     }
-    let ops = (0..1 + random.below(24)).map(|_| random_op(random, aperture, unit, &cards)).collect();
+    let op = |_| {
+        let op = random_op(random, aperture, unit, &cards);
+        if wild == Wild::Numbers { random_wild(random, op) } else { op }
+    };
+    let ops = (0..steps).map(op).collect();
     Question::Bus { aperture, cards, ops }
+}
+
+/// Now and then a number beyond the Rust's types, often one that is good in its low bits.
+fn random_wild(random: &mut Random, op: BusOp) -> BusOp {
+    let far = |random: &mut Random, number: u64, bits: u64| match random.below(16) {
+        0 => number.wrapping_add(1 << random.pick(&[bits, 32, 63])),
+        1 => random.u64(),
+        2 => random.below(40),
+        _ => number,
+    };
+    match op {
+        BusOp::Read { device, offset, width } => BusOp::Read {
+            device: far(random, device, 8),
+            offset: far(random, offset, 16),
+            width: far(random, width, 8),
+        },
+        BusOp::Write { device, offset, width, value } => BusOp::Write {
+            device: far(random, device, 8),
+            offset: far(random, offset, 16),
+            width: far(random, width, 8),
+            value,
+        },
+        BusOp::Lookup { address, width } => {
+            BusOp::Lookup { address: far(random, address, 32), width: far(random, width, 8) }
+        }
+        BusOp::Reset => BusOp::Reset,
+    }
 }
 
 fn random_op(random: &mut Random, aperture: Aperture, unit: u64, cards: &[Card]) -> BusOp {
     let card = &cards[random.below(cards.len() as u64) as usize];
-    let device = if random.once_in(16) { random.below(32) as u8 } else { card.device };
+    let device = if random.once_in(16) { random.below(32) } else { card.device.into() };
     let (offset, width) = random_access(random);
+    let (offset, width) = (u64::from(offset), u64::from(width));
     // A place near the BARs, mostly a multiple of their unit.
     let near =
         aperture.start.wrapping_add(random.below(aperture.end - aperture.start + (2 << unit))).wrapping_sub(1 << unit);
@@ -140,9 +204,9 @@ fn random_op(random: &mut Random, aperture: Aperture, unit: u64, cards: &[Card])
 }
 
 /// All ones, or that part of an address that the lanes take.
-fn random_bar_write(random: &mut Random, device: u8, slot: u8, address: u64) -> BusOp {
+fn random_bar_write(random: &mut Random, device: u64, slot: u8, address: u64) -> BusOp {
     let width = random.pick(&[1, 2, 4, 4]);
     let lane = random.below(4) / width * width;
     let value = if random.once_in(4) { u64::MAX } else { address >> (8 * lane) };
-    BusOp::Write { device, offset: 0x10 + 4 * u16::from(slot) + lane as u16, width: width as u8, value }
+    BusOp::Write { device, offset: 0x10 + 4 * u64::from(slot) + lane, width, value }
 }

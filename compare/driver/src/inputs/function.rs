@@ -1,6 +1,6 @@
 //! Inputs of the power-on image and of steps on one function.
 
-use rules::{Bar, ConfigByte, Function, Identity, Intx, Op, Question, Random};
+use rules::{Bar, ConfigByte, Function, Identity, Intx, Now, Op, Question, Random};
 
 use super::{
     MOST_CONFIG_BYTES,
@@ -132,6 +132,10 @@ pub fn random_power_on(random: &mut Random) -> Question {
     Question::PowerOn { function: random_function(random) }
 }
 
+fn now(bar: &Bar, address: u32, probing: bool) -> Now {
+    Now { slot: bar.slot, address, probing }
+}
+
 /// One write of all ones and of zeros at every access, and what follows it; each end of the revision.
 pub fn steps(duel: &mut Duel) -> Checked {
     let bars =
@@ -141,7 +145,12 @@ pub fn steps(duel: &mut Duel) -> Checked {
     for (offset, width) in accesses() {
         for value in [u64::MAX, 0, 0x0123_4567_89ab_cdef] {
             for accept in [false, true] {
-                for revision in [0, u64::MAX - 1, u64::MAX] {
+                for (revision, probing) in [(0, false), (0, true), (u64::MAX - 1, false), (u64::MAX, false)] {
+                    let now: Vec<Now> = if probing {
+                        function.bars.iter().map(|bar| now(bar, bar.address, true)).collect()
+                    } else {
+                        vec![]
+                    };
                     let write = Op::Write { offset, width, value, accept };
                     let read = Op::Read { offset, width };
                     for ops in [
@@ -149,7 +158,12 @@ pub fn steps(duel: &mut Duel) -> Checked {
                         vec![write, write, read, Op::Reset, read],
                         vec![Op::Reset, write, Op::Reset],
                     ] {
-                        duel.listed(|| Question::Function { function: function.clone(), revision, ops })?;
+                        duel.listed(|| Question::Function {
+                            function: function.clone(),
+                            now: now.clone(),
+                            revision,
+                            ops,
+                        })?;
                     }
                 }
             }
@@ -159,7 +173,7 @@ pub fn steps(duel: &mut Duel) -> Checked {
     for offset in (0..0x110).chain([0xffff]) {
         for width in [1, 2, 4, 8] {
             let ops = vec![Op::Write { offset, width, value: u64::MAX, accept: true }, Op::Read { offset, width }];
-            duel.listed(|| Question::Function { function: function.clone(), revision: 0, ops })?;
+            duel.listed(|| Question::Function { function: function.clone(), now: vec![], revision: 0, ops })?;
         }
     }
     Ok(())
@@ -192,5 +206,9 @@ pub fn random_steps(random: &mut Random) -> Question {
             _ => Op::Write { offset, width, value: random_value(random), accept: random.once_in(2) },
         }
     };
-    Question::Function { function, revision, ops: (0..count).map(op).collect() }
+    let ops = (0..count).map(op).collect();
+    let moved = function.bars.clone().into_iter().filter(|_| random.once_in(3)).collect::<Vec<_>>();
+    let now = moved.iter().map(|bar| now(bar, (random.below(1 << 32) / bar.size * bar.size) as u32, random.once_in(2)));
+    let now = now.collect();
+    Question::Function { function, now, revision, ops }
 }

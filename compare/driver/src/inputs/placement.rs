@@ -139,7 +139,7 @@ pub fn random_place(random: &mut Random) -> Question {
 }
 
 /// Mostly a multiple of size in the aperture.
-fn random_fixed(random: &mut Random, aperture: Aperture, size: u64) -> Request {
+pub fn random_fixed(random: &mut Random, aperture: Aperture, size: u64) -> Request {
     let inside = aperture.start + random.below(aperture.end - aperture.start);
     // The multiple above, if it still fits.
     let above = inside.next_multiple_of(size);

@@ -22,10 +22,10 @@ pub(super) fn story(aperture: Aperture, cards: &[Card], ops: &[BusOp]) -> Option
     let answers = ops.iter().map(|op| step(&root, *op)).collect::<Option<_>>()?;
     root.unbind_all_routes();
     let ends = cards.iter().map(|card| end(&root, card.device)).collect::<Option<_>>()?;
-    Some(Story { answers, ends })
+    Some(Story { answers, ends, after: None })
 }
 
-fn start(aperture: Aperture, cards: &[Card]) -> Option<PciRootState> {
+pub(crate) fn start(aperture: Aperture, cards: &[Card]) -> Option<PciRootState> {
     let mut topology = PciTopologyBuilder::new();
     for card in cards {
         function::declarable(&card.function)?;
@@ -69,17 +69,23 @@ fn spec(id: &DeviceNodeId, card: &Card) -> Option<PciFunctionSpec> {
 }
 
 /// None above 31: the Rust has no such address.
-fn bdf(device: u8) -> Option<PciBdf> {
+pub(crate) fn bdf(device: u8) -> Option<PciBdf> {
     PciBdf::new(PciSegment::new(0), 0, device, 0).ok()
+}
+
+fn width_of(bytes: u64) -> Option<AccessWidth> {
+    AccessWidth::of(u32::try_from(bytes).ok()?)
 }
 
 fn step(root: &PciRootState, op: BusOp) -> Option<Answer> {
     match op {
-        BusOp::Read { device, offset, width } => read(root, bdf(device)?, offset, AccessWidth::of(width.into())?),
-        BusOp::Write { device, offset, width, value } => {
-            write(root, bdf(device)?, offset, AccessWidth::of(width.into())?, value)
+        BusOp::Read { device, offset, width } => {
+            read(root, bdf(u8::try_from(device).ok()?)?, u16::try_from(offset).ok()?, width_of(width)?)
         }
-        BusOp::Lookup { address, width } => Some(match root.resolve_bar(address, AccessWidth::of(width.into())?) {
+        BusOp::Write { device, offset, width, value } => {
+            write(root, bdf(u8::try_from(device).ok()?)?, u16::try_from(offset).ok()?, width_of(width)?, value)
+        }
+        BusOp::Lookup { address, width } => Some(match root.resolve_bar(address, width_of(width)?) {
             None => Answer::Miss,
             Some(route) => {
                 Answer::Hit { device: route.bdf().device(), slot: route.bar().value(), offset: route.offset() }

@@ -1,6 +1,6 @@
 //! config.rs: the power-on image, and steps on one function.
 
-use rules::{Answer, Bar, Capability, End, Function, Image, Op, Story, Touch, Touched};
+use rules::{Answer, Bar, Capability, End, Function, Image, Now, Op, Story, Touch, Touched};
 
 use super::{address, bar, capability};
 use crate::{
@@ -105,13 +105,26 @@ fn touch(state: &FunctionState, offset: usize, size: usize, width: AccessWidth, 
     }
 }
 
-pub(super) fn story(function: &Function, revision: u64, ops: &[Op]) -> Option<Story> {
+pub(super) fn story(function: &Function, now: &[Now], revision: u64, ops: &[Op]) -> Option<Story> {
     let plans = plans(&function.bars)?;
     let power_on = build(function, &plans)?;
     runtime::start_at([revision]);
     let mut state = FunctionState::new(PciBdf::bus_zero(0), power_on, &plans, function.intx.is_some());
+    now.iter().try_for_each(|now| begin(&mut state, function, *now))?;
     let answers = ops.iter().map(|op| step(&mut state, *op)).collect::<Option<_>>()?;
-    Some(Story { answers, ends: vec![end(&state)?] })
+    Some(Story { answers, ends: vec![end(&state)?], after: None })
+}
+
+/// Moves a BAR and lets it probe, as accepted writes would; none if there is no such BAR, or it could not lie there.
+fn begin(state: &mut FunctionState, function: &Function, now: Now) -> Option<()> {
+    let size = function.bars.iter().find(|bar| bar.slot == now.slot)?.size;
+    let bar = state.bars().iter().position(|bar| bar.index().value() == now.slot)?;
+    u64::from(now.address).is_multiple_of(size).then_some(())?;
+    state.finish_relocation(bar, Some(now.address.into()));
+    if now.probing {
+        state.apply_probe(bar);
+    }
+    Some(())
 }
 
 /// In the order of `PciRootState::prepare_read_config` and `prepare_write_config`.
