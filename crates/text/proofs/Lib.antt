@@ -3,3 +3,4 @@ pub mod Writes
 pub mod Rooms
 pub mod Numerals
 pub mod Examples
+pub mod Fitting

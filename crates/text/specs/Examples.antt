@@ -1,14 +1,15 @@
 -- The Run case and the two refusals that document 01 shows, as one statement over a list (proofs/Examples.antt proves it).
 use Prim.Native.Nat.{ℕ}
 use mathlib.Core.List.{List, [], _∷_, _++_}
+use mathlib.Core.Path.{_≡_}
 use lib.ListN.{replicate}
-use Rattle.bar.specs.Range.{range}
 use Rattle.placement.specs.Keys.{keyCount}
 use Rattle.placement.specs.Place.{noRange}
 use Rattle.declaration.specs.declared.answer.Place.{Place}
 use Rattle.declaration.specs.declared.answer.Place.the-variants.{Offset, Index}
 use Rattle.declaration.specs.declared.answer.DeclarationAnswer.the-variants.{Accepted, Refused}
-use Rattle.text.specs.Text.{shownText}
+use Rattle.bus.specs.Run.{runRanges, runFile}
+use Rattle.text.specs.Text.{shownText, textOf}
 use Rattle.text.specs.declared.shown.Shown.{Shown}
 
 -- devices 3 and 5, with their BARs where placement puts them
@@ -18,7 +19,7 @@ run =
       answer = Accepted;
       aperture = record { start = 0x80000000; end = 0x80010000 };
       devices = 3 ∷ 5 ∷ replicate 6 0;
-      ranges = range 0x80001000 0x1000 ∷ range 0x80000000 0x1000 ∷ replicate 4 noRange ++ (range 0x80004000 0x4000 ∷ replicate 41 noRange);
+      ranges = runRanges;
     }
 
 abbrev pub refusedAt : ℕ → Place → Shown
@@ -50,8 +51,15 @@ refusedBar = 114 ∷ 101 ∷ 102 ∷ 117 ∷ 115 ∷ 101 ∷ 100 ∷ 32 ∷ 49 �
 abbrev pub refusedField : List ℕ
 refusedField = 114 ∷ 101 ∷ 102 ∷ 117 ∷ 115 ∷ 101 ∷ 100 ∷ 32 ∷ 50 ∷ 32 ∷ 49 ∷ 57 ∷ 10 ∷ []
 
+-- the Run case whole, from the bytes of its file to the bytes that are printed
+abbrev pub runText : List ℕ
+runText = runFirst ++ runSecond ++ runThird ++ runFourth
+
+abbrev pub RunPrints : Type 0
+RunPrints = textOf runFile ≡ runText
+
 unfoldable pub asked : List (List ℕ)
 asked = shownText run ∷ shownText (refusedAt 16 (Index 3 1)) ∷ shownText (refusedAt 2 (Offset 19)) ∷ []
 
 unfoldable pub told : List (List ℕ)
-told = (runFirst ++ runSecond ++ runThird ++ runFourth) ∷ refusedBar ∷ refusedField ∷ []
+told = runText ∷ refusedBar ∷ refusedField ∷ []

@@ -4,3 +4,4 @@ pub mod Part
 pub mod Line
 pub mod Text
 pub mod Examples
+pub mod Fits
