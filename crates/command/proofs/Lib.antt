@@ -1,0 +1,6 @@
+-- The laws of commands.
+pub mod Numerals
+pub mod Words
+pub mod Arguments
+pub mod Commands
+pub mod Examples

@@ -1,0 +1,4 @@
+-- What a line of the console asks.
+pub mod Numeral
+pub mod Command
+pub mod Examples
