@@ -1,5 +1,2 @@
--- The laws of the dialogue.
-pub mod Numerals
-pub mod Words
-pub mod Commands
-pub mod Arguments
+-- The laws of the answers.
+pub mod Shown

@@ -15,8 +15,8 @@ use Rattle.dialogue.specs.Access.{readText, writeText, lookupText, reset
 use Rattle.dialogue.specs.Report.{reportText, revisionText}
 use Rattle.dialogue.specs.Dump.{dumpRoom, dumpText}
 use Rattle.dialogue.specs.declared.answers.Answered.{Answered}
-use Rattle.dialogue.specs.declared.command.Command.{Command}
-use Rattle.dialogue.specs.declared.command.Command.the-variants.{Read, Write, Lookup, Reset, Enumerate, Revision, Dump, Unknown}
+use Rattle.command.specs.declared.line.Command.{Command}
+use Rattle.command.specs.declared.line.Command.the-variants.{Read, Write, Lookup, Reset, Enumerate, Revision, Dump, Unknown}
 
 -- "? LINE"; of a line of more than 4,096 bytes as many are shown
 abbrev pub unknownMark : List ℕ

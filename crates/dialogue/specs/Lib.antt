@@ -1,6 +1,4 @@
--- The console's dialogue: what a line asks, and what is answered.
-pub mod Numeral
-pub mod Command
+-- The console's dialogue: what is answered to a line.
 pub mod Effect
 pub mod Access
 pub mod Report

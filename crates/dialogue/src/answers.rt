@@ -4,7 +4,7 @@ ghost use mathlib.Core.List.{_++_};
 ghost use Prim.Native.Nat.{_+_, _≤_};
 ghost use lib.ListN.{length, take};
 ghost use Rattle.text.specs.Text.{Holds};
-ghost use Rattle.dialogue.specs.Command.{commandOf};
+ghost use Rattle.command.specs.Command.{commandOf};
 ghost use Rattle.dialogue.specs.Access.{writeText, resetText};
 ghost use Rattle.dialogue.specs.Report.{reportText};
 ghost use Rattle.dialogue.specs.Answer.{unknownText, unknownRoom, answerRoom, answerText, busAfter, Told};
@@ -15,14 +15,14 @@ use crate::access::put_lookup;
 use crate::access::put_read;
 use crate::access::put_reset;
 use crate::access::put_write;
-use crate::command::Command;
-use crate::command::command_of;
 use crate::dump::put_dump;
 use crate::part::put_bytes;
 use crate::report::put_report;
 use crate::report::put_revision;
 use address::limits::FUNCTION_LIMIT;
 use bus::Bus;
+use command::Command;
+use command::command_of;
 
 // The longest answer: a dump of every function, 24 bytes, 16 lines of 52 and an empty line each.
 pub const ANSWER_ROOM: usize = FUNCTION_LIMIT * (24 + 16 * 52 + 1);

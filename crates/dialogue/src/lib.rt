@@ -1,10 +1,8 @@
-// The console's dialogue: what a line asks, and what is answered.
+// The console's dialogue: what is answered to a line.
 mod access;
 mod answers;
-mod command;
 mod dump;
 mod effect;
-mod numeral;
 mod part;
 mod report;
 
@@ -12,5 +10,3 @@ pub use answers::ANSWER_ROOM;
 pub use answers::Answered;
 pub use answers::LINE_MOST;
 pub use answers::answer;
-pub use command::Command;
-pub use command::command_of;

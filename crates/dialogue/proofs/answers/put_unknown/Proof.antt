@@ -5,7 +5,7 @@ use Rattle.text.proofs.Writes.{joined}
 use mathlib.Core.Path.{ap}
 use native.Mathlib.Omega.{arith}
 use lib.ListN.{length, take}
-use Rattle.dialogue.proofs.Words.{part-short}
+use Rattle.dialogue.proofs.Shown.{part-short}
 use Rattle.dialogue.specs.Answer.{lineMost, unknownText, unknownMark}
 use mathlib.Core.List.{[], _∷_}
 use borrow.Author.Needs.{needs}
