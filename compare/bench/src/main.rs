@@ -22,7 +22,7 @@ use voussglen::{
 mod ours_place;
 
 /// Turns of a row, odd for the median; in each, first ours and then the Rust, so many calls as take about this long.
-const TURNS: usize = 101;
+const TURNS: usize = 501;
 const TURN_NANOSECONDS: u128 = 200_000;
 
 /// An answer that nobody looks at, and that is made all the same.
@@ -38,10 +38,15 @@ impl Times {
         self.0[self.0.len() / 2]
     }
 
+    /// What other work on the machine disturbs least.
+    fn least(&self) -> f64 {
+        self.0[0]
+    }
+
     /// The median, the least, and the middle half.
     fn told(&self) -> String {
         let quarter = |n| self.0[n * self.0.len() / 4];
-        format!("{:>9.0} {:>9.0} {:>9.0} to {:<9.0}", self.median(), self.0[0], quarter(1), quarter(3))
+        format!("{:>9.0} {:>9.0} {:>9.0} to {:<9.0}", self.median(), self.least(), quarter(1), quarter(3))
     }
 }
 
@@ -66,7 +71,13 @@ fn row(name: &str, mut ours: impl FnMut(u64), mut rust: impl FnMut(u64)) {
     ours.sort_by(f64::total_cmp);
     rust.sort_by(f64::total_cmp);
     let (ours, rust) = (Times(ours), Times(rust));
-    println!("{name:26}{}{}{:>8.1}", ours.told(), rust.told(), ours.median() / rust.median());
+    println!(
+        "{name:26}{}{}{:>8.1}{:>8.1}",
+        ours.told(),
+        rust.told(),
+        ours.median() / rust.median(),
+        ours.least() / rust.least()
+    );
 }
 
 /// A library's bus beside the Rust's, memory decoding on in all functions.
@@ -112,10 +123,11 @@ impl Pair {
 }
 
 fn main() {
-    println!("nanoseconds a call; {TURNS} turns, ours and the Rust in turn; the middle half lies between the two last");
+    println!("nanoseconds a call: median, least and middle half of {TURNS} turns, ours and the Rust in turn");
+    println!("ratios: of the medians, and of the least, which other work on the machine disturbs less");
     println!(
-        "{:26}{:>9} {:>9} {:>22}{:>9} {:>9} {:>22}{:>8}",
-        "", "ours", "least", "middle half", "Rust", "least", "middle half", "ratio"
+        "{:26}{:>9} {:>9} {:>22}{:>9} {:>9} {:>22}{:>8}{:>8}",
+        "", "ours", "least", "middle half", "Rust", "least", "middle half", "ratio", "least"
     );
     let mut pair = Pair::new();
     pair.read("read", 0, 4);

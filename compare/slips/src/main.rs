@@ -40,7 +40,11 @@ fn main() -> ExitCode {
                 let how = noticed(&plan, rule, &mut slip, *beside);
                 count += 1;
                 missed += u32::from(how.is_none());
-                let by = if *beside == Beside::Ours { "ours" } else { "the Rust" };
+                let by = match beside {
+                    Beside::Ours => "ours",
+                    Beside::Rust if slip.ours => "both",
+                    Beside::Rust => "the Rust",
+                };
                 println!("{:36}{name:18}{by:10}{}", slip.name, how.unwrap_or("NOT NOTICED".into()));
             }
         }
