@@ -176,7 +176,7 @@ class Boot:
             self.function[word] = int(rest, 0)
 
     def drain(self):
-        """Reads what the guest has printed so far; it prints before it asks, so what was said is known before each answer."""
+        """Reads what the guest has printed so far. It prints before it asks, so what was said is known before each answer."""
         for pipe in (1, 0):
             while True:
                 try:
@@ -246,7 +246,8 @@ class Boot:
             if time.time() - told > NEWS:
                 told = time.time()
                 print(f"          {self.phase}: {sum(self.host.count.values())} accesses so far", flush=True)
-            self.drain()
+            if any(key.data == "console" for key, _ in ready):
+                self.drain()
             for key, _ in ready:
                 if isinstance(key.data, int):
                     device = vhost.Device(key.fileobj.accept()[0], self.host.serve(self.host.devices[key.data]))

@@ -4,7 +4,7 @@ import re
 import cases
 import library
 
-DUMPS = ["power-on", "enabled", "after function resets", "after rescan", "after the driver", "after bus reset",
+DUMPS = ["power-on", "enabled", "after function resets", "after the driver", "after rescan", "after bus reset",
          "after reset and rescan"]
 MEMORY = 0x200                                    # IORESOURCE_MEM
 USUAL = re.compile(r"""root[ ]bus[ ]resource | PCI[ ]host[ ]bridge[ ]to | PCI:[ ]CLS | disabled[ ]VQ[ ]suspend
