@@ -1,10 +1,10 @@
 // The console: a bus of the declaration that the first argument names; each line of standard input is answered at once.
-mod session;
+mod talk;
 
 use bus::Bus;
 use declaration::DeclarationAnswer;
 use libc::STDOUT_FILENO;
-use session::converse;
+use talk::converse;
 use text::FILE_MOST;
 use text::TEXT_ROOM;
 

@@ -12,7 +12,7 @@ struct Held {
     pub long: bool,
 }
 
-struct Session {
+struct Talk {
     pub bus: Bus,
     pub held: Held,
     pub open: bool,
@@ -75,9 +75,9 @@ fn keep(line: &mut [u8; LINE_MOST], held: Held, byte: u8) -> Held {
 }
 
 // Takes what was read.
-fn hear(line: &mut [u8; LINE_MOST], input: &[u8], session: Session) -> Session {
-    let mut bus = session.bus;
-    let mut held = session.held;
+fn hear(line: &mut [u8; LINE_MOST], input: &[u8], talk: Talk) -> Talk {
+    let mut bus = talk.bus;
+    let mut held = talk.held;
     let mut i = 0;
     while i < input.len() {
         let byte = input[i];
@@ -90,7 +90,7 @@ fn hear(line: &mut [u8; LINE_MOST], input: &[u8], session: Session) -> Session {
         }
         i += 1;
     }
-    Session {
+    Talk {
         bus,
         held,
         open: true,
@@ -98,15 +98,15 @@ fn hear(line: &mut [u8; LINE_MOST], input: &[u8], session: Session) -> Session {
 }
 
 // The input has ended; the last line may lack its end.
-fn close(line: &[u8], session: Session) -> Session {
-    let held = session.held;
-    let bus = session.bus;
+fn close(line: &[u8], talk: Talk) -> Talk {
+    let held = talk.held;
+    let bus = talk.bus;
     let mut after = bus;
     if 0 < held.length {
         let last = end_line(line, held, bus);
         after = last;
     }
-    Session {
+    Talk {
         bus: after,
         held: nothing_held(),
         open: false,
@@ -114,14 +114,14 @@ fn close(line: &[u8], session: Session) -> Session {
 }
 
 // Reads once, and answers what came.
-fn listen(line: &mut [u8; LINE_MOST], session: Session) -> Session {
+fn listen(line: &mut [u8; LINE_MOST], talk: Talk) -> Talk {
     let mut input = io::buffer();
     let got = libc::read(STDIN_FILENO, &mut input);
     if got <= 0 {
-        return close(line, session);
+        return close(line, talk);
     }
     let count = io::count(got, &input);
-    hear(line, &input[..count], session)
+    hear(line, &input[..count], talk)
 }
 
 fn blank_line() -> [u8; LINE_MOST] {
@@ -131,15 +131,15 @@ fn blank_line() -> [u8; LINE_MOST] {
 // A proved loop ends, so it counts its turns down, from a number that no run uses up.
 pub fn converse(bus: Bus) {
     let mut line = blank_line();
-    let mut session = Session {
+    let mut talk = Talk {
         bus,
         held: nothing_held(),
         open: true,
     };
     let mut turns = u64::MAX;
-    while turns > 0 && session.open {
-        let next = listen(&mut line, session);
-        session = next;
+    while turns > 0 && talk.open {
+        let next = listen(&mut line, talk);
+        talk = next;
         turns -= 1;
     }
 }

@@ -2,8 +2,8 @@
 use Prim.Native.Nat.{_-_, _≤_}
 use native.Mathlib.Omega.{arith}
 use lib.ListN.{length}
-use Rattle.console.proofs.session.hear.Statement.{statement}
-use Rattle.console.proofs.session.hear.Tie as tie
+use Rattle.console.proofs.talk.hear.Statement.{statement}
+use Rattle.console.proofs.talk.hear.Tie as tie
 
 abbrev Inv-loop : tie.InvT-loop
 Inv-loop line₀ input bus₀ held₀ i₀ line bus held i = i ≤ length input

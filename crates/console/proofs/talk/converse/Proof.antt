@@ -1,13 +1,13 @@
 -- `converse` is safe and ends: the measure is the turns that are left.
 use native.Mathlib.Omega.{arith}
-use Rattle.console.proofs.session.converse.Statement.{statement}
-use Rattle.console.proofs.session.converse.Tie as tie
+use Rattle.console.proofs.talk.converse.Statement.{statement}
+use Rattle.console.proofs.talk.converse.Tie as tie
 
 abbrev Inv-loop : tie.InvT-loop
-Inv-loop line₀ session₀ turns₀ line session turns = Unit {0}
+Inv-loop line₀ talk₀ turns₀ line talk turns = Unit {0}
 
 abbrev μ-loop : tie.MeasureT-loop
-μ-loop line₀ session₀ turns₀ line session turns = turns
+μ-loop line₀ talk₀ turns₀ line talk turns = turns
 
 blank-line-requires : tie.Need-blank-line-requires Inv-loop μ-loop
 blank-line-requires c κs = tt
