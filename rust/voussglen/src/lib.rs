@@ -169,7 +169,7 @@ impl Bus {
     }
 
     /// A bus from a struct that [`Bus::raw`] gave, to bring back one that was saved.
-    /// Any other struct is answered too; what it answers is then that struct's affair.
+    /// Every other struct gets its answers too, but that ranges are apart and enumeration is true is promised only of a bus that a file started.
     pub fn from_raw(raw: raw::Bus) -> Bus {
         Bus { raw: Box::new(raw) }
     }
