@@ -1,13 +1,26 @@
 -- Where an access by device goes: to the function of a declared device, or to none.
 use Prim.Native.Nat.{ℕ, _<_, _≤_}
+use mathlib.Core.List.{[]}
 use mathlib.Core.Path.{_≡_, sym, _∙_}
 use borrow.Author.Tests.{lt-ltb, le-ltb}
+use lib.ListN.{length, getD}
+use Rattle.word.proofs.Tables.{getD-inside}
 use Rattle.address.specs.Layout.{configSpaceSize}
 use Rattle.address.specs.Check.{accessOf}
+use Rattle.address.specs.Limits.{functionRoom}
+use Rattle.config.specs.declared.state.FunctionState.{FunctionState}
 use Rattle.config.specs.Read.{readOf}
-use Rattle.bus.specs.Bus.{countOn, functionAt, indexIn, indexOn}
+use Rattle.bus.specs.Bus.{countOn, noFunctionState, functionAt, indexIn, indexOn}
 use Rattle.bus.specs.Access.{absentRead, busReadOf, absentWrite, writtenOn, busWriteOf}
 use Rattle.bus.specs.declared.state.Bus.{Bus}
+
+-- what the language says stands past the end of an array; no code reads there
+abbrev pub unread : FunctionState
+unread = record { live = []; «power_on» = []; mask = []; bars = []; placed = record { capabilities = []; count = 0; effects = []; «effect_count» = 0 }; revision = 0 }
+
+-- an element of the array is the function there
+pub function-there : (b : Bus) (k : ℕ) → length (b .functions) ≡ functionRoom → k < functionRoom → getD (b .functions) k unread ≡ functionAt b k
+function-there b k l h = getD-inside (b .functions) k unread noFunctionState (rw l h)
 
 module _ (b : Bus) (d o w : ℕ) where
   pub read-declared : indexOn b d < countOn b → busReadOf b d o w ≡ readOf (functionAt b (indexOn b d)) o w

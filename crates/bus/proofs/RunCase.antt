@@ -12,7 +12,7 @@ use Rattle.capability.specs.Layout.{answerOf, layoutOf}
 use Rattle.config.specs.ConfigByte.{byteCheckOf}
 use Rattle.placement.specs.Answer.{allPlaced}
 use Rattle.placement.specs.Examples as example
-use Rattle.placement.specs.Keys.{keyCount, slotBar, declaredAt, barsOf}
+use Rattle.placement.specs.Keys.{slotBar, declaredAt, barsOf}
 use Rattle.placement.proofs.Examples.{run}
 use Rattle.placement.proofs.SameBars.{same-bars}
 use Rattle.declaration.specs.Answer.{checkedWhole, declaredFrom, declaredBy}
@@ -27,7 +27,7 @@ use Rattle.declaration.specs.Take.{takenSaid}
 use Rattle.declaration.specs.Whole.{faultOf}
 use Rattle.declaration.specs.declared.answer.Declaration.{Declaration}
 use Rattle.declaration.specs.declared.answer.DeclarationAnswer.the-variants as answer
-use Rattle.bus.specs.Bus.{rangeOn}
+use Rattle.bus.specs.Bus.{rangeOn, rangesOn}
 use Rattle.bus.specs.Outcome.{declarationOf}
 use Rattle.bus.specs.Run.{runFile, runRanges, RunCase}
 use Rattle.bus.specs.Start.{declaredBars, barsPlaced, functionStart, devicesOf, functionsOf, busOf, placementIn, startDeclared, startOf}
@@ -42,10 +42,10 @@ record Said : Type 0 where
   count : declaration .count ≡ 2
   devices : devicesOf declaration ≡ 3 ∷ 5 ∷ replicate 6 0
   bars : barsOf (declaredBars declaration) ≡ barsOf example.runBars
-  ranges : table keyCount (rangeOn (busOf declaration example.runAddresses)) ≡ runRanges
+  ranges : rangesOn (busOf declaration example.runAddresses) ≡ runRanges
 
 said : Said
-unfolding declaredBy declaredFrom checkedWhole readFields readField frameOf lengthAllowed bodyLong saidBy saidOf takenSaid number readAt deviceUsed anyBelow allBelow firstBelow firstOf emptyFunction emptyContents nothingSoFar opened noneFinished finishedWith finishedSoFar faultOf layoutOf answerOf noneDeclared byteCheckOf sizeOk powerOfTwo table filled devicesOf declaredBars barsOf declaredAt slotBar rangeOn busOf functionsOf functionStart barsPlaced
+unfolding declaredBy declaredFrom checkedWhole readFields readField frameOf lengthAllowed bodyLong saidBy saidOf takenSaid number readAt deviceUsed anyBelow allBelow firstBelow firstOf emptyFunction emptyContents nothingSoFar opened noneFinished finishedWith finishedSoFar faultOf layoutOf answerOf noneDeclared byteCheckOf sizeOk powerOfTwo table filled devicesOf declaredBars barsOf declaredAt slotBar rangeOn rangesOn busOf functionsOf functionStart barsPlaced
 said = record { answer = refl; aperture = refl; count = refl; devices = refl; bars = refl; ranges = refl }
 
 placed : placementIn declaration ≡ allPlaced example.runAddresses

@@ -5,6 +5,7 @@ use mathlib.Core.List.{List}
 use lib.Dec.{ltb, eqb}
 use lib.ListN.{getD, set, replicate}
 use Rattle.word.specs.Search.{firstBelow}
+use Rattle.word.specs.Table.{table}
 use Rattle.address.specs.Layout.{configSpaceSize, barCount}
 use Rattle.address.specs.Limits.{functionRoom}
 use Rattle.bar.specs.State.{noState, rangeOf}
@@ -13,6 +14,7 @@ use Rattle.bar.specs.declared.bar_state.BarState.{BarState}
 use Rattle.capability.specs.Blank.{nothingPlaced}
 use Rattle.config.specs.State.{barAt}
 use Rattle.config.specs.declared.state.FunctionState.{FunctionState}
+use Rattle.placement.specs.Keys.{keyCount}
 use Rattle.placement.specs.Place.{noRange}
 use Rattle.bus.specs.declared.state.Bus.{Bus}
 
@@ -57,3 +59,7 @@ barOn b key = barAt (functionAt b (key / barCount) .bars) (key % barCount)
 -- its committed range; the empty one where there is no such function
 unfoldable pub rangeOn : Bus → ℕ → Range
 rangeOn b key = cond (ltb (key / barCount) (countOn b)) (rangeOf (barOn b key)) noRange
+
+-- those at all keys
+unfoldable pub rangesOn : Bus → List Range
+rangesOn b = table keyCount (rangeOn b)

@@ -3,9 +3,12 @@ use Prim.Native.Nat.{ℕ, _+_, _-_, _/_, _%_}
 use mathlib.Core.Bool.{Bool, _&&_, cond}
 use lib.Dec.{ltb, leb, eqb}
 use Rattle.refusal.specs.Number.{accepted, badAccess}
+use mathlib.Core.List.{List}
 use Rattle.word.specs.Search.{firstOf}
+use Rattle.word.specs.Table.{table}
 use Rattle.word.specs.Width.{widthOk}
 use Rattle.address.specs.Layout.{barCount}
+use Rattle.address.specs.Limits.{functionRoom}
 use Rattle.bar.specs.Range.{endOf}
 use Rattle.bar.specs.declared.range.Range.{Range}
 use Rattle.config.specs.Command.{commandBit}
@@ -23,6 +26,10 @@ mostLookup = 8
 -- "a function with command bit 1 set"
 abbrev pub decodes : FunctionState → Bool
 decodes f = eqb (commandBit (f .live) 1) 1
+
+-- which functions do
+unfoldable pub decodingOn : Bus → List Bool
+decodingOn b = table functionRoom (λ k. decodes (functionAt b k))
 
 -- "the whole access lies in": sums are of natural numbers, so an access past 2^64 lies in none
 abbrev pub liesWithin : Range → ℕ → ℕ → Bool

@@ -3,14 +3,12 @@ use Prim.Native.Nat.{ℕ}
 use mathlib.Core.List.{List, [], _∷_, _++_}
 use mathlib.Core.Path.{_≡_}
 use lib.ListN.{length, replicate}
-use Rattle.word.specs.Table.{table}
 use Rattle.address.specs.Limits.{limits}
 use Rattle.bar.specs.Range.{range}
 use Rattle.bar.specs.declared.range.Range.{Range}
 use Rattle.declaration.specs.declared.answer.DeclarationAnswer.the-variants as answer
-use Rattle.placement.specs.Keys.{keyCount}
 use Rattle.placement.specs.Place.{noRange}
-use Rattle.bus.specs.Bus.{rangeOn}
+use Rattle.bus.specs.Bus.{rangesOn}
 use Rattle.bus.specs.Start.{startOf}
 use Rattle.bus.specs.declared.power_up.Started.{Started}
 
@@ -40,7 +38,7 @@ pub record Runs (s : Started) : Type 0 where
   pub aperture : s .bus .aperture ≡ record { start = 0x80000000; end = 0x80010000 }
   pub count : s .bus .count ≡ 2
   pub devices : s .bus .devices ≡ 3 ∷ 5 ∷ replicate 6 0
-  pub ranges : table keyCount (rangeOn (s .bus)) ≡ runRanges
+  pub ranges : rangesOn (s .bus) ≡ runRanges
 
 abbrev pub RunCase : Type 0
 RunCase = (length runFile ≡ 114) × Runs (startOf limits runFile)

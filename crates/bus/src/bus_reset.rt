@@ -5,7 +5,6 @@ ghost use Rattle.address.specs.Limits.{functionRoom};
 ghost use Rattle.bus.specs.Reset.{resetFirst, resetAnswer, busResetOf, busResetNumber};
 use crate::state::Bus;
 use crate::state::count_on;
-use crate::state::function_at;
 use address::limits::FUNCTION_LIMIT;
 use config::FunctionState;
 use config::LARGEST_REVISION;
@@ -40,7 +39,7 @@ fn reset_answer(bus: Bus) -> BusResetAnswer
     let count = count_on(bus.count);
     let mut k = 0;
     while k < count {
-        let function = function_at(bus, k);
+        let function = bus.functions[k];
         if function.revision == LARGEST_REVISION {
             return BusResetAnswer::Exhausted(bus.devices[k]);
         }

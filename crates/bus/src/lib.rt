@@ -18,7 +18,7 @@ pub use memory_lookup::LookupAnswer;
 pub use memory_lookup::lookup;
 pub use power_up::Started;
 pub use power_up::start;
-pub use ranges::range_on;
+pub use ranges::ranges_on;
 pub use read_access::read;
 pub use state::Bus;
 pub use state::function_at;

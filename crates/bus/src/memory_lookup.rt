@@ -1,13 +1,12 @@
 // Memory lookup.
 ghost use mathlib.Core.Path.{_≡_};
-ghost use Prim.Native.Nat.{_<_};
-ghost use Rattle.placement.specs.Keys.{keyCount};
-ghost use Rattle.bus.specs.Lookup.{decodes, liesWithin, holdsAt, lookupOf, lookupNumber};
-use crate::ranges::range_on;
+ghost use mathlib.Core.Bool.{_&&_};
+ghost use Rattle.bus.specs.Lookup.{decodes, decodingOn, liesWithin, lookupOf, lookupNumber};
+use crate::ranges::ranges_on;
 use crate::state::Bus;
-use crate::state::function_at;
 use address::config_layout;
 use address::limits::BAR_SLOTS;
+use address::limits::FUNCTION_LIMIT;
 use bar::Range;
 use config::FunctionState;
 use placement::KEY_COUNT;
@@ -64,15 +63,26 @@ fn lies_within(range: Range, address: u64, width: usize) -> bool
     (width as u64) <= range.size - offset
 }
 
-// Whether the BAR at a key holds an access.
-fn holds_at(bus: Bus, address: u64, width: usize, key: usize) -> bool
-    requires { ⌜ key < keyCount ⌝ }
-    ensures { λ r. ⌜ r ≡ holdsAt bus address width key ⌝ }
+// Whether each function answers them.
+fn decoding_on(bus: Bus) -> [bool; FUNCTION_LIMIT]
+    ensures { λ r. ⌜ r ≡ decodingOn bus ⌝ }
 {
-    let function = function_at(bus, key / BAR_SLOTS);
-    let open = decodes_memory(function);
-    if open {
-        return lies_within(range_on(bus, key), address, width);
+    let mut decoding = [false; FUNCTION_LIMIT];
+    let mut k = 0;
+    while k < FUNCTION_LIMIT {
+        let function = bus.functions[k];
+        decoding[k] = decodes_memory(function);
+        k += 1;
+    }
+    decoding
+}
+
+// Whether a BAR with this range, of a function that answers or does not, holds an access.
+fn holds(answers: bool, range: Range, address: u64, width: usize) -> bool
+    ensures { λ r. ⌜ r ≡ answers && liesWithin range address width ⌝ }
+{
+    if answers {
+        return lies_within(range, address, width);
     }
     false
 }
@@ -85,11 +95,13 @@ pub fn lookup(bus: Bus, address: u64, width: usize) -> LookupAnswer
     if !known {
         return LookupAnswer::BadWidth;
     }
+    let ranges = ranges_on(bus);
+    let decoding = decoding_on(bus);
     let mut key = 0;
     while key < KEY_COUNT {
-        let held = holds_at(bus, address, width, key);
+        let held = holds(decoding[key / BAR_SLOTS], ranges[key], address, width);
         if held {
-            let range = range_on(bus, key);
+            let range = ranges[key];
             return LookupAnswer::Hit {
                 device: bus.devices[key / BAR_SLOTS],
                 slot: key % BAR_SLOTS,

@@ -6,11 +6,10 @@ ghost use Rattle.address.specs.Layout.{barCount};
 ghost use Rattle.address.specs.Limits.{functionRoom};
 ghost use Rattle.placement.specs.Keys.{keyCount};
 ghost use Rattle.placement.specs.Place.{noRange};
-ghost use Rattle.bus.specs.Bus.{rangeOn};
-ghost use Rattle.bus.specs.Access.{rangeBut, rangesBut, accepts};
+ghost use Rattle.bus.specs.Bus.{rangesOn};
+ghost use Rattle.bus.specs.Access.{rangesBut, accepts};
 use crate::state::Bus;
 use crate::state::count_on;
-use crate::state::function_at;
 use address::limits::BAR_SLOTS;
 use bar::Range;
 use placement::KEY_COUNT;
@@ -30,40 +29,32 @@ fn no_ranges() -> [Range; KEY_COUNT]
     [none; KEY_COUNT]
 }
 
-// The committed range at a key; the empty one where there is no such function.
-pub fn range_on(bus: Bus, key: usize) -> Range
-    ensures { λ r. ⌜ r ≡ rangeOn bus key ⌝ }
+// The committed ranges at all keys; the empty one where there is no such function. One loop here: a call for each key would copy the bus each time.
+pub fn ranges_on(bus: Bus) -> [Range; KEY_COUNT]
+    ensures { λ r. ⌜ r ≡ rangesOn bus ⌝ }
 {
-    let k = key / BAR_SLOTS;
-    if k < count_on(bus.count) {
-        let function = function_at(bus, k);
-        let bar = function.bars[key % BAR_SLOTS];
-        return bar.range();
+    let end = count_on(bus.count) * BAR_SLOTS;
+    let mut ranges = no_ranges();
+    let mut key = 0;
+    while key < end {
+        let function = bus.functions[key / BAR_SLOTS];
+        let bars = function.bars;
+        let bar = bars[key % BAR_SLOTS];
+        let range = bar.range();
+        ranges[key] = range;
+        key += 1;
     }
-    no_range()
+    ranges
 }
 
-// That of a BAR other than the one at `key`.
-fn range_but(bus: Bus, key: usize, other: usize) -> Range
-    ensures { λ r. ⌜ r ≡ rangeBut bus key other ⌝ }
-{
-    if other == key {
-        return no_range();
-    }
-    range_on(bus, other)
-}
-
-// Those of every other BAR.
+// Those of every BAR but the one at `key`.
 fn ranges_but(bus: Bus, key: usize) -> [Range; KEY_COUNT]
+    requires { ⌜ key < keyCount ⌝ }
     ensures { λ r. ⌜ r ≡ rangesBut bus key ⌝ }
 {
-    let mut ranges = no_ranges();
-    let mut other = 0;
-    while other < KEY_COUNT {
-        let range = range_but(bus, key, other);
-        ranges[other] = range;
-        other += 1;
-    }
+    let mut ranges = ranges_on(bus);
+    let none = no_range();
+    ranges[key] = none;
     ranges
 }
 
@@ -72,7 +63,7 @@ pub(crate) fn accepted_at(bus: Bus, k: usize, i: usize, address: u64) -> bool
     requires { ⌜ (k < functionRoom) × (i < barCount) ⌝ }
     ensures { λ r. ⌜ r ≡ accepts bus k i address ⌝ }
 {
-    let function = function_at(bus, k);
+    let function = bus.functions[k];
     let bar = function.bars[i];
     let others = ranges_but(bus, k * BAR_SLOTS + i);
     is_place(bus.aperture, bar.plan.size, others, address)

@@ -8,7 +8,6 @@ ghost use Rattle.address.specs.Check.{mostWidth, accessOf};
 ghost use Rattle.bus.specs.Access.{absentRead, busReadOf};
 use crate::state::Bus;
 use crate::state::count_on;
-use crate::state::function_at;
 use crate::state::index_of;
 use address::Access;
 use address::check;
@@ -53,7 +52,7 @@ pub fn read(bus: Bus, device: usize, offset: usize, width: usize) -> ReadReply
     let devices = bus.devices;
     let k = index_of(&devices, count, device);
     if k < count {
-        return config::read(function_at(bus, k), offset, width);
+        return config::read(bus.functions[k], offset, width);
     }
     absent_read(offset, width)
 }

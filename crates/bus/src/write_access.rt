@@ -9,7 +9,6 @@ ghost use Rattle.bus.specs.Access.{busWriteNumber, busDone, settledOn, a
 use crate::ranges::accepted_at;
 use crate::state::Bus;
 use crate::state::count_on;
-use crate::state::function_at;
 use crate::state::index_of;
 use address::Access;
 use address::check;
@@ -107,7 +106,7 @@ fn settle(bus: Bus, k: usize, i: usize, address: u64) -> BusWriteDone
     requires { ⌜ (k < functionRoom) × (i < barCount) ⌝ }
     ensures { λ r. ⌜ r ≡ settledOn bus k i address ⌝ }
 {
-    let function = function_at(bus, k);
+    let function = bus.functions[k];
     let accepted = accepted_at(bus, k, i, address);
     if accepted {
         let moved = finish_at(function, i, Relocation::Accepted(address));
@@ -134,7 +133,7 @@ fn write_on(bus: Bus, k: usize, offset: usize, width: usize, value: u64) -> BusW
     requires { ⌜ k < functionRoom ⌝ }
     ensures { λ r. ⌜ r ≡ writtenOn bus k offset width value ⌝ }
 {
-    let step = config::write(function_at(bus, k), offset, width, value);
+    let step = config::write(bus.functions[k], offset, width, value);
     let reply = step.reply;
     let body = reply.body;
     let answer = reply.answer;

@@ -13,12 +13,6 @@ use Rattle.word.proofs.Tables.{length-table, getD-table, table-ext, table-getD,
 use Rattle.word.proofs.Tests.{below-or-not, same-or-not, ltb-same}
 use Rattle.declaration.specs.Finished.{opened}
 
--- inside a list it does not matter what is said to stand past its end
-pub getD-inside : {A : Type 0} (l : List A) (i : ℕ) (d e : A) → i < length l → getD l i d ≡ getD l i e
-getD-inside [] i d e h = absurd (omega arith)
-getD-inside (x ∷ l) zero d e h = refl
-getD-inside (x ∷ l) (suc i) d e h = getD-inside l i d e (omega arith)
-
 module _ {A : Type 0} (blank : A) (l : List A) (p : ℕ) (x : A) where
   abbrev open-at : ℕ → A
   open-at k = cond (ltb k p) (getD l k blank) (cond (eqb k p) x (getD l (k - 1) blank))

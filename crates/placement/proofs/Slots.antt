@@ -7,6 +7,7 @@ use native.Mathlib.Omega.{arith}
 use borrow.Author.Tests.{lt-ltb, le-ltb}
 use lib.ListN.{length, getD}
 use Rattle.word.proofs.Searches.{first-is, first-none}
+use Rattle.word.proofs.Tables.{getD-inside}
 use Rattle.address.specs.Layout.{barCount}
 use Rattle.bar.specs.Bar.{noBar}
 use Rattle.placement.specs.Keys.{noFunction, barsIn, standsAt, slotBar, declaredAt}
@@ -23,16 +24,10 @@ module _ (f : FunctionBars) (s : ℕ) where
   unfolding slotBar
   slot-none n = first-none (λ k. getD (f .bars) k noBar) noBar (standsAt f s) (barsIn f) n
 
--- below the end of a list no blank is seen
-pub any-blank : {A : Type 0} (l : List A) (i : ℕ) (a b : A) → i < length l → getD l i a ≡ getD l i b
-any-blank [] i a b h = absurd (omega arith)
-any-blank (x ∷ l) zero a b h = refl
-any-blank (x ∷ l) (suc i) a b h = any-blank l i a b (omega arith)
-
 module _ (d : DeclaredBars) (key : ℕ) where
   pub key-in : (blank : FunctionBars) → key / barCount < length (d .functions) → key / barCount < d .count → declaredAt d key ≡ slotBar (getD (d .functions) (key / barCount) blank) (key % barCount)
   unfolding declaredAt
-  key-in blank l h = rw (lt-ltb (key / barCount) (d .count) h, any-blank (d .functions) (key / barCount) noFunction blank l)
+  key-in blank l h = rw (lt-ltb (key / barCount) (d .count) h, getD-inside (d .functions) (key / barCount) noFunction blank l)
 
   pub key-past : d .count ≤ key / barCount → declaredAt d key ≡ noBar
   unfolding declaredAt

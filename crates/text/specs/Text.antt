@@ -6,7 +6,6 @@ use mathlib.Core.Path.{_≡_}
 use lib.Dec.{eqb, ltb}
 use lib.ListN.{length, getD, take}
 use Rattle.io.specs.Counts.{Counts}
-use Rattle.word.specs.Table.{table}
 use Rattle.address.specs.Layout.{barCount}
 use Rattle.address.specs.Limits.{limits}
 use Rattle.bar.specs.declared.range.Range.{Range}
@@ -14,7 +13,7 @@ use Rattle.placement.specs.Place.{noRange}
 use Rattle.placement.specs.Keys.{keyCount}
 use Rattle.declaration.specs.declared.answer.DeclarationAnswer.{DeclarationAnswer}
 use Rattle.declaration.specs.declared.answer.DeclarationAnswer.the-variants.{Accepted, Refused}
-use Rattle.bus.specs.Bus.{rangeOn}
+use Rattle.bus.specs.Bus.{rangesOn}
 use Rattle.bus.specs.Start.{startOf}
 use Rattle.bus.specs.declared.power_up.Started.{Started}
 use Rattle.text.specs.Part.{partsBelow}
@@ -49,7 +48,7 @@ shownText s = answerText s (s .answer)
 
 -- what is shown of a bus that was started: the committed ranges by key
 unfoldable pub shownOf : Started → Shown
-shownOf s = record { answer = s .answer; aperture = s .bus .aperture; devices = s .bus .devices; ranges = table keyCount (rangeOn (s .bus)) }
+shownOf s = record { answer = s .answer; aperture = s .bus .aperture; devices = s .bus .devices; ranges = rangesOn (s .bus) }
 
 -- "The program takes up to 65,536 bytes"
 abbrev pub fileMost : ℕ

@@ -47,6 +47,12 @@ module _ {A : Type 0} where
       (λ (q : k ≡ i → ⊥). getD-set-other (table n f) i k b d q ∙ getD-table n f k d k< ∙ same k k< q)
       (same-or-not k i)))
 
+-- inside a list it does not matter what is said to stand past its end
+pub getD-inside : {A : Type 0} (l : List A) (i : ℕ) (d e : A) → i < length l → getD l i d ≡ getD l i e
+getD-inside [] i d e h = absurd (omega arith)
+getD-inside (x ∷ l) zero d e h = refl
+getD-inside (x ∷ l) (suc i) d e h = getD-inside l i d e (omega arith)
+
 -- a table of numbers below b has such numbers only, past its end too
 pub table-below : (n : ℕ) (f : ℕ → ℕ) (b : ℕ) → 0 < b → ((k : ℕ) → f k < b) → (i : ℕ) → getD (table n f) i 0 < b
 table-below n f b z h i =

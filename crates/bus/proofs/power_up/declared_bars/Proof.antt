@@ -7,9 +7,8 @@ use lib.ListN.{length}
 use Rattle.address.specs.Limits.{functionRoom}
 use Rattle.word.specs.Table.{filled}
 use Rattle.word.proofs.Mapped.{long-unmapped}
-use Rattle.word.proofs.Tables.{blank-filled, filled-more, filled-all}
+use Rattle.word.proofs.Tables.{blank-filled, filled-more, filled-all, getD-inside}
 use Rattle.declaration.specs.Blank.{noFunction}
-use Rattle.declaration.proofs.Openings.{getD-inside}
 use Rattle.bus.specs.Start.{declaredFunction, functionBars, declaredBars}
 use Rattle.bus.proofs.power_up.declared_bars.Statement.{statement}
 use Rattle.bus.proofs.power_up.declared_bars.Tie as tie

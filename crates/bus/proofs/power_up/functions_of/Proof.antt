@@ -8,9 +8,8 @@ use Rattle.address.specs.Limits.{functionRoom}
 use Rattle.config.specs.declared.function.Function.{Function}
 use Rattle.word.specs.Table.{filled}
 use Rattle.word.proofs.Mapped.{long-unmapped}
-use Rattle.word.proofs.Tables.{blank-filled, filled-more}
+use Rattle.word.proofs.Tables.{blank-filled, filled-more, getD-inside}
 use Rattle.declaration.specs.Blank.{noFunction}
-use Rattle.declaration.proofs.Openings.{getD-inside}
 use Rattle.bus.specs.Bus.{noFunctionState}
 use Rattle.bus.specs.Start.{declaredFunction, functionStart, functionsOf}
 use Rattle.bus.proofs.Fills.{filled-cut}

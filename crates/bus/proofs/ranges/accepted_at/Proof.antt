@@ -1,12 +1,23 @@
 -- `accepted_at` asks whether the address is a place, given the others.
-use mathlib.Core.Path.{_∙_}
+use mathlib.Core.Path.{_≡_, _∙_}
 use Rattle.bus.specs.Access.{accepts}
+use lib.ListN.{length}
+use Rattle.word.proofs.Mapped.{long-unmapped}
+use Rattle.address.specs.Limits.{functionRoom}
+use native.Mathlib.Omega.{arith}
 use borrow.Author.Needs.{needs}
+use Rattle.bus.proofs.Dispatch.{function-there}
 use Rattle.bus.proofs.ranges.accepted_at.Statement.{statement}
 use Rattle.bus.proofs.ranges.accepted_at.Tie as tie
 
-function-at-requires : tie.Need-function-at-requires
-function-at-requires c κs = search needs
+long : (c : tie.Start) → length (c .args .t1 .functions) ≡ functionRoom
+long c = search (needs, long-unmapped)
+
+mul-function : tie.Need-mul-function
+mul-function c = search needs
+
+element-copy-out-function : tie.Need-element-copy-out-function
+element-copy-out-function c = search needs
 
 mul-bar : tie.Need-mul-bar
 mul-bar c = search needs
@@ -28,13 +39,16 @@ is-place-requires c κs = search needs
 
 returns : tie.Need-returns
 unfolding accepts
-returns c = c .is-place .ensures ∙ rw (c .before .ranges-but .ensures, c .before .before .before .function-at .ensures)
+returns c =
+    let s = c .before .before .before .before .before in
+    c .is-place .ensures ∙ rw (c .before .before .ranges-but .ensures, function-there (s .args .t1) (s .args .k) (long s) (omega arith))
 
 pub accepted-at-spec : {M : Type 1} → statement M
 accepted-at-spec =
     tie.close
     (tie.spec
-    function-at-requires
+    mul-function
+    element-copy-out-function
     mul-bar
     element-copy-out-bar
     mul-ranges-but

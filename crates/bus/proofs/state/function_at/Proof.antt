@@ -2,8 +2,8 @@
 use mathlib.Core.Path.{_≡_, sym, _∙_}
 use lib.ListN.{length, List·getD-eq-default}
 use Rattle.word.proofs.Mapped.{long-unmapped}
+use Rattle.word.proofs.Tables.{getD-inside}
 use Rattle.address.specs.Limits.{functionRoom}
-use Rattle.placement.proofs.Slots.{any-blank}
 use Rattle.bus.specs.Bus.{noFunctionState}
 use borrow.Author.Needs.{needs}
 use Rattle.bus.proofs.state.function_at.Statement.{statement}
@@ -19,7 +19,7 @@ element-copy-out-result : tie.Need-element-copy-out-result
 element-copy-out-result c = search needs
 
 returns : tie.Need-returns
-returns c = any-blank (c .before .before .args .t1 .functions) _ _ _ (rw (long (c .before .before)) (c .before .if1 .taken))
+returns c = getD-inside (c .before .before .args .t1 .functions) _ _ _ (rw (long (c .before .before)) (c .before .if1 .taken))
 
 no-function-state-requires : tie.Need-no-function-state-requires
 no-function-state-requires c κs = search needs

@@ -1,11 +1,22 @@
 -- `settle` goes by the acceptance; the function that changes is the one at the index.
-use mathlib.Core.Path.{_∙_}
+use mathlib.Core.Path.{_≡_, _∙_}
+use lib.ListN.{length}
+use Rattle.word.proofs.Mapped.{long-unmapped}
+use Rattle.address.specs.Limits.{functionRoom}
+use native.Mathlib.Omega.{arith}
 use borrow.Author.Needs.{needs}
+use Rattle.bus.proofs.Dispatch.{function-there}
 use Rattle.bus.proofs.write_access.settle.Statement.{statement}
 use Rattle.bus.proofs.write_access.settle.Tie as tie
 
-function-at-requires : tie.Need-function-at-requires
-function-at-requires c κs = search needs
+long : (c : tie.Start) → length (c .args .t1 .functions) ≡ functionRoom
+long c = search (needs, long-unmapped)
+
+mul-function : tie.Need-mul-function
+mul-function c = search needs
+
+element-copy-out-function : tie.Need-element-copy-out-function
+element-copy-out-function c = search needs
 
 accepted-at-requires : tie.Need-accepted-at-requires
 accepted-at-requires c κs = search needs
@@ -25,8 +36,9 @@ done-requires c κs = search needs
 returns : tie.Need-returns
 returns c =
     let k = c .before .before .before .before in
+    let s = c .before .before .before .before .before .before .before in
     c .done .ensures ∙
-    rw (c .before .with-function .ensures, c .before .before .no-body .ensures, c .before .before .before .finish-at .ensures, k .before .before .function-at .ensures, ← k .before .accepted-at .ensures, k .if1 .taken)
+    rw (c .before .with-function .ensures, c .before .before .no-body .ensures, c .before .before .before .finish-at .ensures, function-there (s .args .t1) (s .args .k) (long s) (omega arith), ← k .before .accepted-at .ensures, k .if1 .taken)
 
 mul-bar : tie.Need-mul-bar
 mul-bar c = search needs
@@ -49,14 +61,16 @@ done-requires-2 c κs = search needs
 returns-2 : tie.Need-returns-2
 returns-2 c =
     let k = c .before .before .before .before .before in
+    let s = c .before .before .before .before .before .before .before .before in
     c .done2 .ensures ∙
-    rw (c .before .with-function2 .ensures, c .before .before .no-body2 .ensures, c .before .before .before .finish-at2 .ensures, k .before .before .function-at .ensures, ← k .before .accepted-at .ensures, k .if1 .left)
+    rw (c .before .with-function2 .ensures, c .before .before .no-body2 .ensures, c .before .before .before .finish-at2 .ensures, function-there (s .args .t1) (s .args .k) (long s) (omega arith), ← k .before .accepted-at .ensures, k .if1 .left)
 
 pub settle-spec : {M : Type 1} → statement M
 settle-spec =
     tie.close
     (tie.spec
-    function-at-requires
+    mul-function
+    element-copy-out-function
     accepted-at-requires
     finish-at-requires
     no-body-requires

@@ -3,17 +3,28 @@ use mathlib.Core.Path.{_≡_, sym, ap, _∙_}
 use Rattle.config.specs.declared.write_step.WriteDone.{WriteDone}
 use Rattle.bus.specs.Access.{steppedOn, writtenOn}
 use Rattle.bus.proofs.Candidates.{candidate-slot}
+use Rattle.bus.proofs.Dispatch.{function-there}
+use lib.ListN.{length}
+use Rattle.word.proofs.Mapped.{long-unmapped}
+use Rattle.address.specs.Limits.{functionRoom}
+use native.Mathlib.Omega.{arith}
 use borrow.Author.Needs.{needs}
 use Rattle.bus.proofs.write_access.write_on.Statement.{statement}
 use Rattle.bus.proofs.write_access.write_on.Tie as tie
 
+long : (c : tie.Start) → length (c .args .t1 .functions) ≡ functionRoom
+long c = search (needs, long-unmapped)
+
 -- the definition, on what the step gave
 as-stepped : (c : tie.After-write) → let a = c .before .before .args in let d = c .write .result in writtenOn (a .t1) (a .k) (a .offset) (a .width) (a .value) ≡ steppedOn (a .t1) (a .k) (d .state) (d .reply .body) (d .reply .answer)
 unfolding writtenOn
-as-stepped c = rw (c .write .ensures, c .before .function-at .ensures)
+as-stepped c = let s = c .before .before in rw (c .write .ensures, function-there (s .args .t1) (s .args .k) (long s) (omega arith))
 
-function-at-requires : tie.Need-function-at-requires
-function-at-requires c κs = search needs
+mul-write : tie.Need-mul-write
+mul-write c = search needs
+
+element-copy-out-write : tie.Need-element-copy-out-write
+element-copy-out-write c = search needs
 
 write-requires : tie.Need-write-requires
 write-requires c κs = search needs
@@ -42,7 +53,7 @@ enum-known-answer-2 c = search needs
 settle-requires : tie.Need-settle-requires
 settle-requires c κs =
     let w = c .before .before .before .before .before in
-    (search needs, candidate-slot (w .before .function-at .result) _ _ _ _ _ (ap (λ (d : WriteDone). d .reply .answer) (sym (w .write .ensures)) ∙ c .before .answer2 .given .1))
+    (search needs, candidate-slot _ _ _ _ _ _ (ap (λ (d : WriteDone). d .reply .answer) (sym (w .write .ensures)) ∙ c .before .answer2 .given .1))
 
 enum-known-answer-3 : tie.Need-enum-known-answer-3
 enum-known-answer-3 c = search needs
@@ -65,8 +76,8 @@ done-requires-5 c κs = search needs
 enum-told-4 : tie.Need-enum-told-4
 enum-told-4 c = search needs
 
-element-copy-out-t37 : tie.Need-element-copy-out-t37
-element-copy-out-t37 c = search needs
+element-copy-out-t39 : tie.Need-element-copy-out-t39
+element-copy-out-t39 c = search needs
 
 done-requires-6 : tie.Need-done-requires-6
 done-requires-6 c κs = search needs
@@ -96,7 +107,8 @@ pub write-on-spec : {M : Type 1} → statement M
 write-on-spec =
     tie.close
     (tie.spec
-    function-at-requires
+    mul-write
+    element-copy-out-write
     write-requires
     enum-told
     with-function-requires
@@ -113,7 +125,7 @@ write-on-spec =
     enum-told-3
     done-requires-5
     enum-told-4
-    element-copy-out-t37
+    element-copy-out-t39
     done-requires-6
     returns
     returns-2

@@ -7,10 +7,10 @@ use borrow.Author.Tests.{lt-ltb, le-ltb}
 use lib.ListN.{length}
 use Rattle.address.specs.Limits.{functionRoom}
 use Rattle.word.proofs.Mapped.{long-unmapped}
+use Rattle.word.proofs.Tables.{getD-inside}
 use Rattle.declaration.specs.Blank.{noFunction}
 use Rattle.declaration.specs.Finished.{countIn}
 use Rattle.declaration.specs.Answer.{refusedFault, checkedWhole}
-use Rattle.declaration.proofs.Openings.{getD-inside}
 use Rattle.declaration.proofs.answer.checked_whole.Statement.{statement}
 use Rattle.declaration.proofs.answer.checked_whole.Tie as tie
 

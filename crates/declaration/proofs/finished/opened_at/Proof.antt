@@ -6,8 +6,9 @@ use borrow.Author.Needs.{needs}
 use lib.ListN.{length}
 use Rattle.address.specs.Limits.{functionRoom}
 use Rattle.word.proofs.Mapped.{long-unmapped}
+use Rattle.word.proofs.Tables.{getD-inside}
 use Rattle.declaration.specs.Blank.{noFunction}
-use Rattle.declaration.proofs.Openings.{getD-inside, movedFrom, moved-none, moved-more, moved-opened}
+use Rattle.declaration.proofs.Openings.{movedFrom, moved-none, moved-more, moved-opened}
 use Rattle.declaration.proofs.finished.opened_at.Statement.{statement}
 use Rattle.declaration.proofs.finished.opened_at.Tie as tie
 

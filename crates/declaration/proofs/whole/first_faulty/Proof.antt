@@ -9,11 +9,11 @@ use borrow.Author.Tests.{eq-eqb, ne-eqb}
 use lib.ListN.{length}
 use Rattle.address.specs.Limits.{functionRoom}
 use Rattle.word.proofs.Mapped.{long-unmapped}
+use Rattle.word.proofs.Tables.{getD-inside}
 use Rattle.word.proofs.Searches.{least-at, least-none}
 use Rattle.declaration.specs.Blank.{noFunction}
 use Rattle.declaration.specs.Finished.{countIn, functionAt}
 use Rattle.declaration.specs.Whole.{faultOf, faulty}
-use Rattle.declaration.proofs.Openings.{getD-inside}
 use Rattle.declaration.proofs.whole.first_faulty.Statement.{statement}
 use Rattle.declaration.proofs.whole.first_faulty.Tie as tie
 

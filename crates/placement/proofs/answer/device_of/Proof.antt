@@ -5,7 +5,7 @@ use lib.ListN.{length, List·getD-eq-default}
 use Rattle.address.specs.Limits.{functionRoom}
 use Rattle.placement.specs.Keys.{noFunction}
 use Rattle.word.proofs.Mapped.{long-unmapped}
-use Rattle.placement.proofs.Slots.{any-blank}
+use Rattle.word.proofs.Tables.{getD-inside}
 use Rattle.placement.specs.declared.declared_bars.FunctionBars.{FunctionBars}
 use borrow.Author.Needs.{needs}
 use Rattle.placement.proofs.answer.device_of.Statement.{statement}
@@ -23,7 +23,7 @@ long c = search (needs, long-unmapped)
 returns : tie.Need-returns
 returns c =
     let s = c .before .before .before in
-    ap (λ (f : FunctionBars). f .device) (any-blank (s .args .declared .functions) (s .args .index) _ noFunction (omega (arith, long s)))
+    ap (λ (f : FunctionBars). f .device) (getD-inside (s .args .declared .functions) (s .args .index) _ noFunction (omega (arith, long s)))
 
 returns-2 : tie.Need-returns-2
 returns-2 c = ap (λ (f : FunctionBars). f .device) (sym (List·getD-eq-default (c .before .before .args .declared .functions) noFunction (omega (arith, long (c .before .before)))))

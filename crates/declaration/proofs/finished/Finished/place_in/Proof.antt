@@ -10,11 +10,11 @@ use lib.Dec.{ltb}
 use lib.ListN.{length}
 use Rattle.address.specs.Limits.{functionRoom}
 use Rattle.word.proofs.Mapped.{long-unmapped}
+use Rattle.word.proofs.Tables.{getD-inside}
 use Rattle.word.proofs.Searches.{least-at, least-none}
 use Rattle.config.specs.declared.function.Function.{Function}
 use Rattle.declaration.specs.Blank.{noFunction}
 use Rattle.declaration.specs.Finished.{functionAt}
-use Rattle.declaration.proofs.Openings.{getD-inside}
 use Rattle.declaration.proofs.finished.Finished.place_in.Statement.{statement}
 use Rattle.declaration.proofs.finished.Finished.place_in.Tie as tie
 
