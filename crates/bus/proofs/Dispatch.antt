@@ -4,13 +4,14 @@ use mathlib.Core.List.{[]}
 use mathlib.Core.Path.{_≡_, sym, _∙_}
 use borrow.Author.Tests.{lt-ltb, le-ltb}
 use lib.ListN.{length, getD}
+use lib.Seq.{set-getD}
 use Rattle.word.proofs.Tables.{getD-inside}
 use Rattle.address.specs.Layout.{configSpaceSize}
 use Rattle.address.specs.Check.{accessOf}
 use Rattle.address.specs.Limits.{functionRoom}
 use Rattle.config.specs.declared.state.FunctionState.{FunctionState}
 use Rattle.config.specs.Read.{readOf}
-use Rattle.bus.specs.Bus.{countOn, noFunctionState, functionAt, indexIn, indexOn}
+use Rattle.bus.specs.Bus.{countOn, noFunctionState, functionAt, indexIn, indexOn, withFunction}
 use Rattle.bus.specs.Access.{absentRead, busReadOf, absentWrite, writtenOn, busWriteOf}
 use Rattle.bus.specs.declared.state.Bus.{Bus}
 
@@ -21,6 +22,10 @@ unread = record { live = []; «power_on» = []; mask = []; bars = []; placed = r
 -- an element of the array is the function there
 pub function-there : (b : Bus) (k : ℕ) → length (b .functions) ≡ functionRoom → k < functionRoom → getD (b .functions) k unread ≡ functionAt b k
 function-there b k l h = getD-inside (b .functions) k unread noFunctionState (rw l h)
+
+-- a function put back as it was leaves the bus as it was
+pub put-back : (b : Bus) (k : ℕ) → withFunction b k (functionAt b k) ≡ b
+put-back b k = rw (set-getD (b .functions) k noFunctionState)
 
 module _ (b : Bus) (d o w : ℕ) where
   pub read-declared : indexOn b d < countOn b → busReadOf b d o w ≡ readOf (functionAt b (indexOn b d)) o w

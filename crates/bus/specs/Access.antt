@@ -27,6 +27,7 @@ use Rattle.bus.specs.declared.state.Bus.{Bus}
 use Rattle.bus.specs.declared.write_access.BusWriteAnswer.{BusWriteAnswer}
 use Rattle.bus.specs.declared.write_access.BusWriteAnswer.the-variants.{Stored, Dropped, Probing, Moved, Kept, Effect, BadAccess, BadEffect, Exhausted}
 use Rattle.bus.specs.declared.write_access.BusWriteDone.{BusWriteDone}
+use Rattle.bus.specs.declared.write_access.Written.{Written}
 
 -- "Check 18 first. An undeclared device, or a number above 31, reads all ones of the width"
 abbrev pub absentRead : Access → ReadReply
@@ -65,6 +66,13 @@ busWriteNumber (Exhausted device) = refusal.exhausted
 
 abbrev pub busDone : BusWriteAnswer → Snapshot → Bus → BusWriteDone
 busDone a body b = record { reply = record { answer = a; body = body }; bus = b }
+
+-- what a write to one function comes to, and that put on the bus
+abbrev pub writtenAs : BusWriteAnswer → Snapshot → FunctionState → Written
+writtenAs a body f = record { reply = record { answer = a; body = body }; function = f }
+
+abbrev pub putOn : Bus → ℕ → Written → BusWriteDone
+putOn b k r = record { reply = r .reply; bus = withFunction b k (r .function) }
 
 -- "If not accepted, the address stays. The answer says which."
 abbrev pub settledOn : Bus → ℕ → ℕ → ℕ → BusWriteDone

@@ -4,8 +4,7 @@ ghost use Prim.Native.Nat.{_<_};
 ghost use Rattle.address.specs.Layout.{configSpaceSize, barCount};
 ghost use Rattle.address.specs.Limits.{functionRoom};
 ghost use Rattle.address.specs.Check.{accessOf};
-ghost use Rattle.bus.specs.Bus.{withFunction};
-ghost use Rattle.bus.specs.Access.{busWriteNumber, busDone, settledOn, absentWrite, writtenOn, busWriteOf};
+ghost use Rattle.bus.specs.Access.{busWriteNumber, busDone, writtenAs, putOn, settledOn, absentWrite, writtenOn, busWriteOf};
 use crate::ranges::accepted_at;
 use crate::state::Bus;
 use crate::state::count_on;
@@ -91,82 +90,80 @@ fn done(answer: BusWriteAnswer, body: Snapshot, bus: Bus) -> BusWriteDone
     BusWriteDone { reply, bus }
 }
 
-// The bus with one function changed.
-fn with_function(bus: Bus, k: usize, function: FunctionState) -> Bus
-    requires { ⌜ k < functionRoom ⌝ }
-    ensures { λ r. ⌜ r ≡ withFunction bus k function ⌝ }
+// What a write to one function comes to: the answer, and the function after it. The bus is changed once, at the end.
+struct Written {
+    pub reply: BusWriteReply,
+    pub function: FunctionState,
+}
+
+fn comes_to(answer: BusWriteAnswer, body: Snapshot, function: FunctionState) -> Written
+    ensures { λ r. ⌜ r ≡ writtenAs answer body function ⌝ }
 {
-    let mut out = bus;
-    out.functions[k] = function;
-    out
+    let reply = BusWriteReply { answer, body };
+    Written { reply, function }
 }
 
 // The end of a relocation: the candidate is accepted, or the address stays.
-fn settle(bus: Bus, k: usize, i: usize, address: u64) -> BusWriteDone
+fn settle(bus: Bus, k: usize, i: usize, address: u64) -> Written
     requires { ⌜ (k < functionRoom) × (i < barCount) ⌝ }
-    ensures { λ r. ⌜ r ≡ settledOn bus k i address ⌝ }
+    ensures { λ r. ⌜ putOn bus k r ≡ settledOn bus k i address ⌝ }
 {
     let function = bus.functions[k];
     let accepted = accepted_at(bus, k, i, address);
     if accepted {
         let moved = finish_at(function, i, Relocation::Accepted(address));
-        return done(
-            BusWriteAnswer::Moved { slot: i, address },
-            no_body(),
-            with_function(bus, k, moved),
-        );
+        return comes_to(BusWriteAnswer::Moved { slot: i, address }, no_body(), moved);
     }
     let bar = function.bars[i];
     let kept = finish_at(function, i, Relocation::Kept);
-    done(
+    comes_to(
         BusWriteAnswer::Kept {
             slot: i,
             address: bar.address,
         },
         no_body(),
-        with_function(bus, k, kept),
+        kept,
     )
 }
 
 // A write to the function at an index.
-fn write_on(bus: Bus, k: usize, offset: usize, width: usize, value: u64) -> BusWriteDone
+fn write_on(bus: Bus, k: usize, offset: usize, width: usize, value: u64) -> Written
     requires { ⌜ k < functionRoom ⌝ }
-    ensures { λ r. ⌜ r ≡ writtenOn bus k offset width value ⌝ }
+    ensures { λ r. ⌜ putOn bus k r ≡ writtenOn bus k offset width value ⌝ }
 {
-    let step = config::write(bus.functions[k], offset, width, value);
+    let function = bus.functions[k];
+    let step = config::write(function, offset, width, value);
     let reply = step.reply;
     let body = reply.body;
     let answer = reply.answer;
     match answer {
         WriteAnswer::Stored => {
             let state = step.state;
-            done(BusWriteAnswer::Stored, body, with_function(bus, k, state))
+            comes_to(BusWriteAnswer::Stored, body, state)
         }
         WriteAnswer::Probing(i) => {
             let state = step.state;
-            done(
-                BusWriteAnswer::Probing(i),
-                body,
-                with_function(bus, k, state),
-            )
+            comes_to(BusWriteAnswer::Probing(i), body, state)
         }
         WriteAnswer::Candidate { slot, address } => settle(bus, k, slot, address),
         WriteAnswer::Effect {
             capability_id,
             region,
             offset,
-        } => done(
+        } => comes_to(
             BusWriteAnswer::Effect {
                 capability_id,
                 region,
                 offset,
             },
             body,
-            bus,
+            function,
         ),
-        WriteAnswer::BadAccess => done(BusWriteAnswer::BadAccess, body, bus),
-        WriteAnswer::BadEffect => done(BusWriteAnswer::BadEffect, body, bus),
-        WriteAnswer::Exhausted => done(BusWriteAnswer::Exhausted(bus.devices[k]), body, bus),
+        WriteAnswer::BadAccess => comes_to(BusWriteAnswer::BadAccess, body, function),
+        WriteAnswer::BadEffect => comes_to(BusWriteAnswer::BadEffect, body, function),
+        WriteAnswer::Exhausted => {
+            comes_to(BusWriteAnswer::Exhausted(bus.devices[k]), body, function)
+        }
     }
 }
 
@@ -191,7 +188,12 @@ pub fn write(bus: Bus, device: usize, offset: usize, width: usize, value: u64) -
     let devices = bus.devices;
     let k = index_of(&devices, count, device);
     if k < count {
-        return write_on(bus, k, offset, width, value);
+        let step = write_on(bus, k, offset, width, value);
+        let reply = step.reply;
+        let function = step.function;
+        let mut out = bus;
+        out.functions[k] = function;
+        return BusWriteDone { reply, bus: out };
     }
     absent_write(bus, offset, width)
 }

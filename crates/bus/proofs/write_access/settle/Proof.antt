@@ -1,10 +1,10 @@
 -- `settle` goes by the acceptance; the function that changes is the one at the index.
-use mathlib.Core.Path.{_≡_, _∙_}
+use mathlib.Core.Path.{_≡_}
+use native.Mathlib.Omega.{arith}
 use lib.ListN.{length}
+use borrow.Author.Needs.{needs}
 use Rattle.word.proofs.Mapped.{long-unmapped}
 use Rattle.address.specs.Limits.{functionRoom}
-use native.Mathlib.Omega.{arith}
-use borrow.Author.Needs.{needs}
 use Rattle.bus.proofs.Dispatch.{function-there}
 use Rattle.bus.proofs.write_access.settle.Statement.{statement}
 use Rattle.bus.proofs.write_access.settle.Tie as tie
@@ -27,18 +27,14 @@ finish-at-requires c κs = search needs
 no-body-requires : tie.Need-no-body-requires
 no-body-requires c κs = search needs
 
-with-function-requires : tie.Need-with-function-requires
-with-function-requires c κs = search needs
-
-done-requires : tie.Need-done-requires
-done-requires c κs = search needs
+comes-to-requires : tie.Need-comes-to-requires
+comes-to-requires c κs = search needs
 
 returns : tie.Need-returns
 returns c =
-    let k = c .before .before .before .before in
-    let s = c .before .before .before .before .before .before .before in
-    c .done .ensures ∙
-    rw (c .before .with-function .ensures, c .before .before .no-body .ensures, c .before .before .before .finish-at .ensures, function-there (s .args .t1) (s .args .k) (long s) (omega arith), ← k .before .accepted-at .ensures, k .if1 .taken)
+    let k = c .before .before .before in
+    let s = c .before .before .before .before .before .before in
+    rw (c .comes-to .ensures, c .before .no-body .ensures, c .before .before .finish-at .ensures, function-there (s .args .t1) (s .args .k) (long s) (omega arith), ← k .before .accepted-at .ensures, k .if1 .taken)
 
 mul-bar : tie.Need-mul-bar
 mul-bar c = search needs
@@ -52,18 +48,14 @@ finish-at-requires-2 c κs = search needs
 no-body-requires-2 : tie.Need-no-body-requires-2
 no-body-requires-2 c κs = search needs
 
-with-function-requires-2 : tie.Need-with-function-requires-2
-with-function-requires-2 c κs = search needs
-
-done-requires-2 : tie.Need-done-requires-2
-done-requires-2 c κs = search needs
+comes-to-requires-2 : tie.Need-comes-to-requires-2
+comes-to-requires-2 c κs = search needs
 
 returns-2 : tie.Need-returns-2
 returns-2 c =
-    let k = c .before .before .before .before .before in
-    let s = c .before .before .before .before .before .before .before .before in
-    c .done2 .ensures ∙
-    rw (c .before .with-function2 .ensures, c .before .before .no-body2 .ensures, c .before .before .before .finish-at2 .ensures, function-there (s .args .t1) (s .args .k) (long s) (omega arith), ← k .before .accepted-at .ensures, k .if1 .left)
+    let k = c .before .before .before .before in
+    let s = c .before .before .before .before .before .before .before in
+    rw (c .comes-to2 .ensures, c .before .no-body2 .ensures, c .before .before .finish-at2 .ensures, function-there (s .args .t1) (s .args .k) (long s) (omega arith), ← k .before .accepted-at .ensures, k .if1 .left)
 
 pub settle-spec : {M : Type 1} → statement M
 settle-spec =
@@ -74,13 +66,11 @@ settle-spec =
     accepted-at-requires
     finish-at-requires
     no-body-requires
-    with-function-requires
-    done-requires
+    comes-to-requires
     returns
     mul-bar
     element-copy-out-bar
     finish-at-requires-2
     no-body-requires-2
-    with-function-requires-2
-    done-requires-2
+    comes-to-requires-2
     returns-2)
