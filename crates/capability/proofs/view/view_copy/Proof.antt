@@ -1,12 +1,12 @@
 -- `view_copy` meets its contract: a walk of its MIR, by hand. `view_of` is called on the same parameters in the same order, its answer is held in a local and taken apart, and `copied` is called on the two fields.
--- All that the proof knows of the two is that they meet their contracts. Every parameter is Copy: what they own is had twice (`twices`), once for `view_of` and once to keep.
---
+-- All that the proof knows of the two is that they meet their contracts. What the parameters own is had twice (`ViewWalks`), once for `view_of` and once to keep.
 use Rattle.capability.specs.View.{viewed, bodyOf, viewCopy}
 use Rattle.capability.specs.declared.placed.Placed.{Placed}
 use Rattle.capability.specs.declared.view.View.{View}
 use Rattle.capability.specs.declared.view.ViewCopy.{ViewCopy}
 use Rattle.capability.proofs.placed.Placed as P
 use Rattle.capability.proofs.placed.Placed.Laws as P′
+use Rattle.capability.proofs.ViewWalks.{stayed, Sl, sv, pv, Arg, at, Owns, twice, goes}
 use Rattle.capability.proofs.view.View as T
 use Rattle.capability.proofs.view.View.Laws as T′
 use Rattle.capability.proofs.view.ViewCopy as R
@@ -23,15 +23,12 @@ use Rattle.capability.proofs.view.view_copy.Key.{name as #me}
 use Rattle.capability.proofs.view.view_copy as me
 use Rattle.capability.proofs.view.view_copy.Code as code
 use Rattle.capability.proofs.view.view_copy.Statement as stated
-use Rattle.walks.proofs.Walk.{_≡_, refl, ap, _∙_, Bool, ℕ, _<_, _^_, List, [], _∷_, length, URA, fullShare, named, erased, w16, w64, Val, vbool, vint, SProp, ent, sep, emp, via, fst∗, snd∗, exE, id⊢, Lft, Share, Fml, ftrue, flft, fat, Memory, Routine, Heap, Calls, Loops, WpFn, Tables, Atoms, sem, Lfts, Fun, fact, givenOf, tables, tablesOf, Given, ‵, raw, _⊛_, given, ⋆, some, later, _$_, _∵_, !, qed, by, move, use1, use2, split, join, learn, pick, rewrite, suffices, frame, await, done, look, init, forget, stop, fld, from, load, of-opd, and-then, no-more, assigns, land, returns, enter, alloc1, alloc0, params1, pass1, pass0, free1, free0, whole, sub, look-in, FmC, fmOf, WpFn-mono, RattleType, owns, Is, shows, uint-vals, uint-tells, uint-copy, bool-vals, bool-tells, bool-copy, u8, usize, u16, bool, RefT, NamedLft, now, plain, namedLft, sliceVal, ShrSlice, slice-vals, shr-slice-tells, shr-slice-lawful, shr-slice-copy, Declared, Values, all-own, own-open, only, peeks, heard, Copies, twices, Contract, Triple, calls-at, Vals, onEntry, Meets, tripleOf, entered, cited, says, Stays, stay-none, stay-none-slice, walkOf, AllGo, goes-none, goes-none-slice, Walks, ends-at, walked, walk-meets, yes, ensured, lasts}
+use Rattle.walks.proofs.Walk.{_≡_, refl, ap, _∙_, Bool, ℕ, _<_, _^_, List, [], _∷_, URA, fullShare, named, erased, w16, w64, Val, vbool, vint, SProp, ent, sep, emp, via, fst∗, snd∗, exE, id⊢, Lft, Share, ftrue, flft, fat, Memory, Routine, Heap, Calls, Loops, WpFn, Tables, Atoms, sem, Lfts, Fun, fact, givenOf, tables, tablesOf, Given, ‵, raw, _⊛_, given, ⋆, some, later, _$_, _∵_, !, qed, by, move, use1, use2, split, join, learn, pick, rewrite, suffices, frame, await, done, look, init, forget, stop, fld, from, load, of-opd, and-then, no-more, assigns, land, returns, enter, alloc1, alloc0, params1, pass1, pass0, free1, free0, whole, sub, look-in, FmC, fmOf, WpFn-mono, RattleType, owns, Is, shows, uint-vals, uint-tells, bool-vals, bool-tells, u8, RefT, NamedLft, now, namedLft, slice-vals, shr-slice-tells, shr-slice-lawful, Declared, all-own, own-open, only, peeks, heard, Contract, Triple, calls-at, Vals, onEntry, Meets, tripleOf, entered, cited, says, walkOf, Walks, ends-at, walked, walk-meets, ensured, lasts}
 use denote.Struct.Laws as LL
 
 -- the view's type, over the signature's lifetimes
 abbrev B : Lfts 1 → RattleType
 B κs = T.the-row (namedLft 1 0 tt κs)
-
-abbrev stayed : Stays (me.ended .signature .params) (me.ended .kept)
-stayed = (stay-none (λ _. P.the-row) yes, (stay-none (λ _. usize) yes, (stay-none-slice (0 ∷ []) tt (plain (λ _. u8)) yes, (stay-none-slice (0 ∷ []) tt (plain (λ _. u8)) yes, (stay-none (λ _. u16) yes, (stay-none (λ _. bool) yes, tt))))))
 
 module _ {M : Type 1} (𝓤 : URA M) (H : Heap 𝓤) (A : Atoms 𝓤) (mem : Memory → SProp 𝓤) (run : Routine → Fun 𝓤) where
   -- the contracts that the proof cites
@@ -42,37 +39,11 @@ module _ {M : Type 1} (𝓤 : URA M) (H : Heap 𝓤) (A : Atoms 𝓤) (mem : Mem
   CopiedC = tripleOf 𝓤 H A copied.signature (copied.spec 𝓤 H A mem run)
 
 module _ {M : Type 1} (𝓤 : URA M) (H : Heap 𝓤) (A : Atoms 𝓤) (W : Given 𝓤 H A) (mem : Memory → SProp 𝓤) (run : Routine → Fun 𝓤) (κ : Lft) (q : Share) (d : Placed) (i : ℕ) (x y : RefT (List ℕ)) (n : ℕ) (w : Bool) where
-  abbrev Sl : RattleType
-  Sl = ShrSlice (named 0) κ u8
-
-  -- the parameters' types, values and machine values: those of `view_of` too
-  abbrev Rs : List RattleType
-  Rs = P.the-row ∷ usize ∷ Sl ∷ Sl ∷ u16 ∷ bool ∷ []
-
-  abbrev Arg : Type 0
-  Arg = Placed × (ℕ × (RefT (List ℕ) × (RefT (List ℕ) × (ℕ × (Bool × Unit {0})))))
-
   abbrev a : Arg
   a = (d, (i, (x, (y, (n, (w, tt))))))
 
-  abbrev sv : RefT (List ℕ) → Val
-  sv s = sliceVal (s .ptr) (length (s .now))
-
-  -- the record's machine value
-  abbrev pv : Val
-  pv = LL.val P.the-type P′.the-laws d
-
-  abbrev at : Vals me.signature (κ, tt)
-  at = (pv ∷ [], (vint w64 i ∷ [], (sv x ∷ [], (sv y ∷ [], (vint w16 n ∷ [], (vbool w ∷ [], tt))))))
-
-  abbrev Owns : Fml
-  Owns = owns Rs a at
-
-  copies : Copies 𝓤 H A Rs
-  copies = (LL.copy P.the-type P′.the-copy 𝓤 H A W, (uint-copy 𝓤 H A W w64, (shr-slice-copy 𝓤 H A W (named 0) κ u8, (shr-slice-copy 𝓤 H A W (named 0) κ u8, (uint-copy 𝓤 H A W w16, (bool-copy 𝓤 H A W, tt))))))
-
   abbrev Post : Val → SProp 𝓤
-  Post = walkOf 𝓤 H A me.ended stayed (me.clauses 𝓤 H A mem run) .post (((κ, tt), (q, tt), tt, a, at), tt)
+  Post = walkOf 𝓤 H A me.ended stayed (me.clauses 𝓤 H A mem run) .post (((κ, tt), (q, tt), tt, a, at κ a), tt)
 
   -- the view's type in the signature, and as a local has it
   abbrev D : Declared
@@ -86,12 +57,12 @@ module _ {M : Type 1} (𝓤 : URA M) (H : Heap 𝓤) (A : Atoms 𝓤) (W : Given
 
   -- the call of `view_of`: what is had at entry gives what it asks, and what the parameters own is kept
   abbrev to-seen : SeenC 𝓤 H A mem run .Ghost
-  to-seen = (((κ, tt), (q, tt), tt, a, at), tt)
+  to-seen = (((κ, tt), (q, tt), tt, a, at κ a), tt)
 
-  goes-seen : ent 𝓤 (onEntry 𝓤 H A me.signature (κ, tt) (q, tt) a at) (sep 𝓤 (SeenC 𝓤 H A mem run .pre to-seen) (sem 𝓤 H A Owns))
+  goes-seen : ent 𝓤 (onEntry 𝓤 H A me.signature (κ, tt) (q, tt) a (at κ a)) (sep 𝓤 (SeenC 𝓤 H A mem run .pre to-seen) (sem 𝓤 H A (Owns κ a)))
   goes-seen =
-      qed W ((‵ (flft κ q) ⊛ ‵ ftrue) ∷ ‵ Owns ∷ []) ∵ move ! (1 ∷ []) $ use1 W (‵ Owns ⊛ ‵ Owns) (twices 𝓤 H A W Rs copies a at) $ split ! $
-      move ! (2 ∷ 0 ∷ []) $ use2 W (raw (SeenC 𝓤 H A mem run .pre to-seen)) (qed W ((‵ (flft κ q) ⊛ ‵ ftrue) ∷ ‵ Owns ∷ []) ∵ join ! $ frame ! $ done !) $ frame ! $ done !
+      qed W ((‵ (flft κ q) ⊛ ‵ ftrue) ∷ ‵ (Owns κ a) ∷ []) ∵ move ! (1 ∷ []) $ use1 W (‵ (Owns κ a) ⊛ ‵ (Owns κ a)) (twice 𝓤 H A W κ a) $ split ! $
+      move ! (2 ∷ 0 ∷ []) $ use2 W (raw (SeenC 𝓤 H A mem run .pre to-seen)) (qed W ((‵ (flft κ q) ⊛ ‵ ftrue) ∷ ‵ (Owns κ a) ∷ []) ∵ join ! $ frame ! $ done !) $ frame ! $ done !
 
   abbrev Seen : View → Type 0
   Seen r = (r .found ≡ viewed d i (now x) (now y) n) × (now (r .body) ≡ bodyOf d i (now x) (now y) n w)
@@ -127,22 +98,22 @@ module _ {M : Type 1} (𝓤 : URA M) (H : Heap 𝓤) (A : Atoms 𝓤) (W : Given
   told : (r : View) (t : ViewCopy) → Seen r → Copied r t → Told t
   told r t s e = e ∙ (ap (λ (f : Bool). viewCopy f (now (r .body))) (s .0) ∙ ap (viewCopy (viewed d i (now x) (now y) n)) (s .1))
 
-  exits : (t : ViewCopy) (u : Val) → Told t → ent 𝓤 (⋆ 𝓤 H A (‵ (R.the-row .own t (u ∷ [])) ∷ (‵ (flft κ q) ⊛ ‵ ftrue) ∷ ‵ Owns ∷ [])) (Post u)
+  exits : (t : ViewCopy) (u : Val) → Told t → ent 𝓤 (⋆ 𝓤 H A (‵ (R.the-row .own t (u ∷ [])) ∷ (‵ (flft κ q) ⊛ ‵ ftrue) ∷ ‵ (Owns κ a) ∷ [])) (Post u)
   exits t u e =
-      qed W (‵ (R.the-row .own t (u ∷ [])) ∷ (‵ (flft κ q) ⊛ ‵ ftrue) ∷ ‵ Owns ∷ []) ∵
-      suffices ! _ (ends-at 𝓤 H A me.ended stayed (me.clauses 𝓤 H A mem run) W (((κ, tt), (q, tt), tt, a, at), tt) u t (tt, (tt, (tt, (tt, (tt, (tt, tt)))))) (tt, (tt, (tt, (tt, (tt, (tt, tt))))))) $ says ! e $
+      qed W (‵ (R.the-row .own t (u ∷ [])) ∷ (‵ (flft κ q) ⊛ ‵ ftrue) ∷ ‵ (Owns κ a) ∷ []) ∵
+      suffices ! _ (ends-at 𝓤 H A me.ended stayed (me.clauses 𝓤 H A mem run) W (((κ, tt), (q, tt), tt, a, at κ a), tt) u t (tt, (tt, (tt, (tt, (tt, (tt, tt)))))) (tt, (tt, (tt, (tt, (tt, (tt, tt))))))) $ says ! e $
       move ! (1 ∷ []) $ frame ! $ move ! (1 ∷ []) $ frame ! $ done !
 
   module _ (C : Calls 𝓤 H) (Λ : Loops 𝓤 H) (fm : FmC 𝓤 H (W .laws) C) (known-seen : Triple 𝓤 (C #seen) (SeenC 𝓤 H A mem run)) (known-copied : Triple 𝓤 (C #copied) (CopiedC 𝓤 H A mem run)) where
-    walk : Is P.the-row d (pv ∷ []) → i < 2 ^ 64 → Is Sl x (sv x ∷ []) → Is Sl y (sv y ∷ []) → n < 2 ^ 16 → ent 𝓤 (onEntry 𝓤 H A me.signature (κ, tt) (q, tt) a at) (WpFn 𝓤 H C Λ code.function (pv ∷ vint w64 i ∷ sv x ∷ sv y ∷ vint w16 n ∷ vbool w ∷ []) Post)
+    walk : Is P.the-row d (pv d ∷ []) → i < 2 ^ 64 → Is (Sl κ) x (sv x ∷ []) → Is (Sl κ) y (sv y ∷ []) → n < 2 ^ 16 → ent 𝓤 (onEntry 𝓤 H A me.signature (κ, tt) (q, tt) a (at κ a)) (WpFn 𝓤 H C Λ code.function (pv d ∷ vint w64 i ∷ sv x ∷ sv y ∷ vint w16 n ∷ vbool w ∷ []) Post)
     walk pd gi px py gn =
-        qed W (raw (onEntry 𝓤 H A me.signature (κ, tt) (q, tt) a at) ∷ []) ∵ enter ! C Λ code.function (pv ∷ vint w64 i ∷ sv x ∷ sv y ∷ vint w16 n ∷ vbool w ∷ []) _ $
+        qed W (raw (onEntry 𝓤 H A me.signature (κ, tt) (q, tt) a (at κ a)) ∷ []) ∵ enter ! C Λ code.function (pv d ∷ vint w64 i ∷ sv x ∷ sv y ∷ vint w16 n ∷ vbool w ∷ []) _ $
         alloc1 ! (λ l₀. alloc1 ! (λ l₁. alloc1 ! (λ l₂. alloc1 ! (λ l₃. alloc1 ! (λ l₄. alloc1 ! (λ l₅. alloc1 ! (λ l₆. alloc1 ! (λ l₇. alloc1 ! (λ l₈. alloc1 ! (λ l₉. alloc0 ! $ params1 ! $
         pass1 ! (init ! 16 refl (LL.lawful P.the-type P′.the-laws 𝓤 H A W .typed d _ pd .0)) $ pass1 ! (init ! 14 refl (tt, record { fits = gi })) $
         pass1 ! (init ! 12 refl (shr-slice-lawful 𝓤 H A W (named 0) κ u8 .typed x (sv x ∷ []) px .0)) $ pass1 ! (init ! 10 refl (shr-slice-lawful 𝓤 H A W (named 0) κ u8 .typed y (sv y ∷ []) py .0)) $
         pass1 ! (init ! 8 refl (tt, record { fits = gn })) $ pass1 ! (init ! 6 refl (tt, tt)) $ pass0 ! $
         -- [room for _9; …; room for _8; …; room for _7; …; _6; …; _5; …; _4; …; _3; …; _2; …; _1; …; room for _0; …; what is had at entry]
-        move ! (20 ∷ []) $ use1 W (raw (SeenC 𝓤 H A mem run .pre to-seen) ⊛ ‵ Owns) goes-seen $ split ! $
+        move ! (20 ∷ []) $ use1 W (raw (SeenC 𝓤 H A mem run .pre to-seen) ⊛ ‵ (Owns κ a)) goes-seen $ split ! $
         calls-at ! fm (SeenC 𝓤 H A mem run) known-seen to-seen (and-then ! (load ! (from ! (stop !)) (look ! 18 refl)) (and-then ! (load ! (from ! (stop !)) (look ! 16 refl)) (and-then ! (load ! (from ! (stop !)) (look ! 14 refl)) (and-then ! (load ! (from ! (stop !)) (look ! 12 refl)) (and-then ! (load ! (from ! (stop !)) (look ! 10 refl)) (and-then ! (load ! (from ! (stop !)) (look ! 8 refl)) (no-more !))))))) (λ u.
         use1 W (later (some (λ (r : View). ((‵ (flft κ q) ⊛ ‵ ftrue) ⊛ ‵ (B (κ, tt) .own r (u ∷ []))) ⊛ raw (ensured 𝓤 H A seen.ended (seen.clauses 𝓤 H A mem run) (κ, tt) a tt r)))) (id⊢ 𝓤 _) $ await ! tt $ pick ! (λ r.
         split ! $ move ! (1 ∷ []) $ use1 W (raw (fact 𝓤 (Seen r))) (said-seen r) $ heard ! (Seen r) (λ s. split ! $ move ! (1 ∷ []) $
@@ -171,12 +142,9 @@ module _ {M : Type 1} (𝓤 : URA M) (H : Heap 𝓤) (A : Atoms 𝓤) (W : Given
   walks C Λ fm known-seen known-copied = walked 𝓤 H A me.ended stayed (me.clauses 𝓤 H A mem run) (WpFn 𝓤 H C Λ code.function) (λ κs. (LL.vals P.the-type P′.the-laws, (uint-vals w64, (slice-vals, (slice-vals, (uint-vals w16, (bool-vals, tt))))))) (λ κs. (LL.tells P.the-type P′.the-laws, (uint-tells w64, (shr-slice-tells (named 0) (κs .0) u8, (shr-slice-tells (named 0) (κs .0) u8, (uint-tells w16, (bool-tells, tt)))))))
       (λ κs qs bounds a g are. via 𝓤 _ (fst∗ 𝓤 _ (emp 𝓤)) (walk 𝓤 H A W mem run (κs .0) (qs .0) (a .0) (a .1 .0) (a .1 .1 .0) (a .1 .1 .1 .0) (a .1 .1 .1 .1 .0) (a .1 .1 .1 .1 .1 .0) C Λ fm known-seen known-copied (are .0) (are .1 .0 .1) (are .1 .1 .0) (are .1 .1 .1 .0) (are .1 .1 .1 .1 .0 .1)))
 
-  goes : AllGo 𝓤 H A W 1 (me.signature .params) (me.ended .kept) stayed
-  goes = (goes-none 𝓤 H A W 1 (λ _. P.the-row) yes (λ κs x f. refl), (goes-none 𝓤 H A W 1 (λ _. usize) yes (λ κs x f. refl), (goes-none-slice 𝓤 H A W 1 (0 ∷ []) tt (plain (λ _. u8)) yes, (goes-none-slice 𝓤 H A W 1 (0 ∷ []) tt (plain (λ _. u8)) yes, (goes-none 𝓤 H A W 1 (λ _. u16) yes (λ κs x f. refl), (goes-none 𝓤 H A W 1 (λ _. bool) yes (λ κs x f. refl), tt))))))
-
 meets : {M : Type 1} (𝓤 : URA M) (H : Heap 𝓤) (A : Atoms 𝓤) (W : Given 𝓤 H A) (mem : Memory → SProp 𝓤) (run : Routine → Fun 𝓤) (𝓣 : Tables 𝓤 H) → Triple 𝓤 (𝓣 .C #seen) (SeenC 𝓤 H A mem run) → Triple 𝓤 (𝓣 .C #copied) (CopiedC 𝓤 H A mem run)
     → Meets 𝓤 H A me.signature (WpFn 𝓤 H (𝓣 .C) (𝓣 .Λ) code.function) (me.spec 𝓤 H A mem run)
-meets 𝓤 H A W mem run 𝓣 known-seen known-copied = walk-meets 𝓤 H A me.ended stayed W (goes 𝓤 H A W mem run) (me.clauses 𝓤 H A mem run) (WpFn 𝓤 H (𝓣 .C) (𝓣 .Λ) code.function) (WpFn-mono 𝓤 H (W .laws) 𝓣 code.function)
+meets 𝓤 H A W mem run 𝓣 known-seen known-copied = walk-meets 𝓤 H A me.ended stayed W (goes 𝓤 H A W) (me.clauses 𝓤 H A mem run) (WpFn 𝓤 H (𝓣 .C) (𝓣 .Λ) code.function) (WpFn-mono 𝓤 H (W .laws) 𝓣 code.function)
     (walks 𝓤 H A W mem run (𝓣 .C) (𝓣 .Λ) (fmOf 𝓤 H (W .laws) 𝓣) known-seen known-copied)
 
 pub view-copy-spec : {M : Type 1} → stated.statement M
