@@ -3,7 +3,7 @@
 use std::{env, fs, path::Path, process::exit};
 
 /// Every function that this crate declares.
-const FUNCTIONS: [&str; 21] = [
+const FUNCTIONS: [&str; 20] = [
     "harness_check",
     "harness_size",
     "harness_size_mask",
@@ -24,7 +24,6 @@ const FUNCTIONS: [&str; 21] = [
     "harness_write",
     "harness_finish",
     "harness_reset",
-    "harness_file",
 ];
 
 fn main() {

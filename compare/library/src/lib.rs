@@ -52,14 +52,9 @@ unsafe extern "C" {
         live_length: usize,
         power: *const u8,
         power_length: usize,
-    ) -> bool;
+        from_live: bool,
+    ) -> ViewCopy;
     fn harness_snapshot(placed: Placed, image: *const u8, length: usize, index: usize) -> Snapshot;
-    fn harness_file(file: *const u8, length: usize) -> FileOut;
-}
-
-pub fn file(file: &[u8]) -> Option<FileOut> {
-    // SAFETY: pointer and length are those of one slice, lent for the call.
-    have::HARNESS_FILE.then(|| unsafe { harness_file(file.as_ptr(), file.len()) })
 }
 
 pub fn effect(declared: DeclaredNumbers, mask: &[u8], effect: PlacedEffect) -> Option<u8> {
@@ -72,10 +67,11 @@ pub fn mode(placed: Placed, mask: &[u8], offset: usize) -> Option<u8> {
     have::HARNESS_MODE.then(|| unsafe { harness_mode(placed, mask.as_ptr(), mask.len(), offset) })
 }
 
-pub fn view(placed: Placed, index: usize, live: &[u8], power: &[u8]) -> Option<bool> {
+pub fn view(placed: Placed, index: usize, live: &[u8], power: &[u8], from_live: bool) -> Option<ViewCopy> {
     // SAFETY: as above, for each of the two.
-    have::HARNESS_VIEW
-        .then(|| unsafe { harness_view(placed, index, live.as_ptr(), live.len(), power.as_ptr(), power.len()) })
+    have::HARNESS_VIEW.then(|| unsafe {
+        harness_view(placed, index, live.as_ptr(), live.len(), power.as_ptr(), power.len(), from_live)
+    })
 }
 
 pub fn snapshot(placed: Placed, image: &[u8], index: usize) -> Option<Snapshot> {

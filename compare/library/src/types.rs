@@ -106,6 +106,13 @@ pub struct Snapshot {
 
 #[repr(C)]
 #[derive(Clone, Copy, Debug)]
+pub struct ViewCopy {
+    pub found: bool,
+    pub body: Snapshot,
+}
+
+#[repr(C)]
+#[derive(Clone, Copy, Debug)]
 pub struct Touched {
     pub refusal: u8,
     pub inside: bool,
@@ -231,21 +238,11 @@ pub struct PlacedOut {
     pub addresses: [u64; KEYS],
 }
 
-#[repr(C)]
-#[derive(Clone, Copy, Debug)]
-pub struct FileOut {
-    pub refusal: u8,
-    pub in_file: bool,
-    pub offset: usize,
-    pub device: u8,
-    pub index: usize,
-    pub count: usize,
-}
-
 // Sizes by the rules of C, worked out by hand: a field lost or of another width shows here.
 const _: () = assert!(size_of::<BarState>() == 40);
 const _: () = assert!(size_of::<Placed>() == 304);
 const _: () = assert!(size_of::<Snapshot>() == 254);
+const _: () = assert!(size_of::<ViewCopy>() == 255);
 const _: () = assert!(size_of::<Touched>() == 12);
 const _: () = assert!(size_of::<DeclaredNumbers>() == 240);
 const _: () = assert!(size_of::<ContentsNumbers>() == 536);
@@ -255,4 +252,3 @@ const _: () = assert!(size_of::<ReadOut>() == 280);
 const _: () = assert!(size_of::<WriteOut>() == 1608);
 const _: () = assert!(size_of::<PlaceNumbers>() == 848);
 const _: () = assert!(size_of::<PlacedOut>() == 392);
-const _: () = assert!(size_of::<FileOut>() == 40);

@@ -1,6 +1,6 @@
 //! Declared capabilities as numbers, and what is asked of them.
 
-use library::{DeclaredNumbers, Placed, PlacedEffect, SPACE, Snapshot};
+use library::{DeclaredNumbers, Placed, PlacedEffect, SPACE, Snapshot, ViewCopy};
 use rules::{Capability, Effect, LayoutRefusal, Mode, Touch, Touched};
 
 fn numbers(effect: &Effect, capability: usize) -> PlacedEffect {
@@ -108,16 +108,18 @@ pub fn modes(capabilities: &[Capability]) -> Option<[Mode; SPACE]> {
     Some(out)
 }
 
+/// An absent view has no bytes.
+fn shown(view: &ViewCopy) -> Option<Option<Vec<u8>>> {
+    let body = bytes(&view.body)?;
+    if view.found { Some(Some(body)) } else { body.is_empty().then_some(None) }
+}
+
 /// The image is asked for as the live one and as the power-on one, each time beside a whole one; both have to answer alike.
 pub fn view(capabilities: &[Capability], index: usize, image: &[u8]) -> Option<Option<Vec<u8>>> {
     let placed = placed(capabilities)?;
     let whole = [0; SPACE];
-    let found = library::view(placed, index, image, &whole)?;
-    if found != library::view(placed, index, &whole, image)? {
-        return None;
-    }
-    if !found {
-        return Some(None);
-    }
-    Some(Some(bytes(&library::snapshot(placed, image, index)?)?))
+    let live = library::view(placed, index, image, &whole, true)?;
+    let power = library::view(placed, index, &whole, image, false)?;
+    let view = shown(&live)?;
+    (view == shown(&power)?).then_some(view)
 }

@@ -18,7 +18,7 @@ pub fn lacks(rule: &str) -> Option<&'static str> {
         "layout" => vec![layout],
         "effect_for" => vec![layout, power_on, ("harness_touch", HARNESS_TOUCH), snapshot],
         "modes" => vec![layout, ("harness_mode", HARNESS_MODE)],
-        "view" => vec![layout, ("harness_view", HARNESS_VIEW), snapshot],
+        "view" => vec![layout, ("harness_view", HARNESS_VIEW)],
         "place" => vec![("harness_place", HARNESS_PLACE)],
         "first_bad_byte" => vec![layout, ("harness_config_bytes", HARNESS_CONFIG_BYTES)],
         "power_on" => vec![layout, power_on],

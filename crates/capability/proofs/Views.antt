@@ -1,6 +1,6 @@
 -- What a view says: its tests one by one, and that the last one never fails on what a layout gives.
 use Prim.Native.Nat.{ℕ, _+_, _-_, _<_, _≤_}
-use mathlib.Core.Bool.{Bool, true, false, _&&_, and-false}
+use mathlib.Core.Bool.{Bool, true, false, _&&_, and-false, cond}
 use mathlib.Core.List.{List, []}
 use mathlib.Core.Path.{_≡_, _∙_}
 use native.Mathlib.Omega.{arith}
@@ -13,11 +13,12 @@ use Rattle.capability.specs.Size.{bodyMost}
 use Rattle.capability.specs.Layout.{layoutOf}
 use Rattle.capability.specs.Owner.{capabilityCount}
 use Rattle.capability.specs.Snapshot.{bodyStart, bodyLength}
-use Rattle.capability.specs.View.{viewed, Seen, bodyIn, bodyOf}
+use Rattle.capability.specs.View.{viewed, Seen, bodyIn, bodyOf, viewCopy}
 use Rattle.capability.specs.Laid.{Laid}
 use Rattle.capability.specs.declared.declared.Capabilities.{Capabilities}
 use Rattle.capability.specs.declared.placed.Placed.{Placed}
 use Rattle.capability.proofs.Laids.{layout-laid}
+use Rattle.capability.proofs.Snapshots.{copy-length, copy-byte}
 
 -- a body is never longer than the longest
 pub body-most : (p : Placed) (i : ℕ) → bodyLength p i ≤ bodyMost
@@ -86,6 +87,27 @@ body-byte p i image k h = getD-take (bodyLength p i) (drop (bodyStart p i) image
 pub body-long : (p : Placed) (i : ℕ) (image : List ℕ) → bodyStart p i + bodyLength p i ≤ length image → length (bodyIn p i image) ≡ bodyLength p i
 unfolding bodyIn
 body-long p i image h = simp (length-take, length-drop) (omega arith)
+
+-- what a view shows fits into a copy, whichever image it is from
+fits-by : (t : Bool) (p : Placed) (i : ℕ) (image : List ℕ) → length (cond t (bodyIn p i image) []) ≤ bodyMost
+unfolding bodyIn
+fits-by true p i image = omega (arith, length-take (bodyLength p i) (drop (bodyStart p i) image), body-most p i)
+fits-by false p i image = omega arith
+
+module _ (p : Placed) (i : ℕ) (live power : List ℕ) (space : ℕ) (fromLive : Bool) where
+  abbrev body : List ℕ
+  body = bodyOf p i live power space fromLive
+
+  view-fits : length body ≤ bodyMost
+  unfolding bodyOf
+  view-fits = fits-by (viewed p i live power space) p i (cond fromLive live power)
+
+  -- so nothing of a view is lost in its copy
+  pub view-copy-length : viewCopy (viewed p i live power space) body .body .length ≡ length body
+  view-copy-length = copy-length body view-fits
+
+  pub view-copy-byte : (k : ℕ) → k < length body → getD (viewCopy (viewed p i live power space) body .body .bytes) k 0 ≡ getD body k 0
+  view-copy-byte k h = copy-byte body view-fits k h
 
 -- in what a layout gives the body always ends in the space: so there is none for document 01's two reasons only, an index past the last and an image of another length
 pub laid-viewed : (space : ℕ) (p : Placed) → Laid space p → (i : ℕ) (live power : List ℕ) → i < p .count → length live ≡ space → length power ≡ space → viewed p i live power space ≡ true

@@ -6,8 +6,9 @@ use mathlib.Core.Path.{_≡_}
 use lib.Dec.{ltb, leb, eqb}
 use lib.ListN.{length, take, drop}
 use Rattle.capability.specs.Owner.{capabilityCount}
-use Rattle.capability.specs.Snapshot.{bodyStart, bodyLength}
+use Rattle.capability.specs.Snapshot.{bodyStart, bodyLength, copyOf}
 use Rattle.capability.specs.declared.placed.Placed.{Placed}
+use Rattle.capability.specs.declared.view.ViewCopy.{ViewCopy}
 
 -- whether there is a view: the index is not past the last capability, both images are as long as the config space, and the body ends in it (which it does in what the layout gives: `layout-viewed`)
 unfoldable pub viewed : Placed → ℕ → List ℕ → List ℕ → ℕ → Bool
@@ -28,3 +29,7 @@ bodyIn p i image = take (bodyLength p i) (drop (bodyStart p i) image)
 -- what a view shows: the body in the image that is asked for, nothing where there is none
 unfoldable pub bodyOf : Placed → ℕ → List ℕ → List ℕ → ℕ → Bool → List ℕ
 bodyOf p i live powerOn space fromLive = cond (viewed p i live powerOn space) (bodyIn p i (cond fromLive live powerOn)) []
+
+-- a view, copied
+abbrev pub viewCopy : Bool → List ℕ → ViewCopy
+viewCopy found body = record { found = found; body = copyOf body }

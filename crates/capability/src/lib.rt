@@ -48,6 +48,8 @@ pub use placed::PlacedEffect;
 pub use snapshot::Snapshot;
 pub use snapshot::snapshot_of;
 pub use view::View;
+pub use view::ViewCopy;
 pub use view::has_view;
 pub use view::shown_or;
+pub use view::view_copy;
 pub use view::view_of;

@@ -1,9 +1,9 @@
-// A copy of a capability's live body.
+// Copies of capability bodies.
 ghost use mathlib.Core.Path.{_≡_};
 ghost use Prim.Native.Nat.{_<_};
 ghost use lib.ListN.{replicate};
 ghost use Rattle.capability.specs.Size.{bodyMost};
-ghost use Rattle.capability.specs.Snapshot.{bodyStart, bodyLength, snapshotOf};
+ghost use Rattle.capability.specs.Snapshot.{bodyStart, bodyLength, snapshotOf, copyOf};
 use crate::owner::span_at;
 use crate::placed::CAPABILITY_BODY_MAX_SIZE;
 use crate::placed::CAPABILITY_HEADER_SIZE;
@@ -53,5 +53,22 @@ pub fn snapshot_of(placed: Placed, image: &[u8], i: usize) -> Snapshot
     Snapshot {
         length: length as u8,
         bytes,
+    }
+}
+
+// A slice's bytes, as many as a body may have.
+pub(crate) fn copy_of(bytes: &[u8]) -> Snapshot
+    ensures { λ r. ⌜ r ≡ copyOf (now (bytes .entry)) ⌝ }
+{
+    let length = word::at_most(bytes.len(), CAPABILITY_BODY_MAX_SIZE);
+    let mut copy = blank();
+    let mut k = 0;
+    while k < length {
+        copy[k] = bytes[k];
+        k += 1;
+    }
+    Snapshot {
+        length: length as u8,
+        bytes: copy,
     }
 }

@@ -1,16 +1,25 @@
 // Views of a capability's body in one of a function's two images.
 ghost use mathlib.Core.Bool.{cond};
 ghost use mathlib.Core.Path.{_≡_};
-ghost use Rattle.capability.specs.View.{viewed, bodyOf};
+ghost use Rattle.capability.specs.View.{viewed, bodyOf, viewCopy};
 use crate::owner::capability_count;
 use crate::placed::Placed;
+use crate::snapshot::Snapshot;
 use crate::snapshot::body_length;
 use crate::snapshot::body_start;
+use crate::snapshot::copy_of;
 
 // The body, where there is one: an absent view differs from an empty body.
 pub struct View<'a> {
     pub found: bool,
     pub body: &'a [u8],
+}
+
+// What a view shows, copied: it can be passed on where a struct that holds a reference cannot.
+#[repr(C)]
+pub struct ViewCopy {
+    pub found: bool,
+    pub body: Snapshot,
 }
 
 // Whether there is a view. It takes what `body_part` takes, so that one proof passes all on to both.
@@ -83,4 +92,26 @@ pub fn shown_or<'a>(view: View<'a>, other: &'a [u8]) -> &'a [u8]
     ensures { λ r. ⌜ now r ≡ cond (view .entry .found) (now (view .entry .body)) (now (other .entry)) ⌝ }
 {
     if view.found { view.body } else { other }
+}
+
+fn copied(found: bool, body: &[u8]) -> ViewCopy
+    ensures { λ r. ⌜ r ≡ viewCopy found (now (body .entry)) ⌝ }
+{
+    let body = copy_of(body);
+    ViewCopy { found, body }
+}
+
+// A copy of what `view_of` gives.
+pub fn view_copy<'a>(
+    placed: Placed,
+    index: usize,
+    live: &'a [u8],
+    power: &'a [u8],
+    space: u16,
+    from_live: bool,
+) -> ViewCopy
+    ensures { λ r. ⌜ r ≡ viewCopy (viewed placed index (now (live .entry)) (now (power .entry)) space) (bodyOf placed index (now (live .entry)) (now (power .entry)) space «from_live») ⌝ }
+{
+    let view = view_of(placed, index, live, power, space, from_live);
+    copied(view.found, view.body)
 }

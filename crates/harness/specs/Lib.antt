@@ -5,4 +5,3 @@ pub mod Function
 pub mod Contents
 pub mod Lists
 pub mod Places
-pub mod File

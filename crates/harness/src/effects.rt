@@ -4,7 +4,7 @@ ghost use Rattle.address.specs.Layout.{configSpaceSize};
 ghost use Rattle.address.specs.Check.{accessOf};
 ghost use Rattle.address.specs.Kinds.{offsetOf};
 ghost use Rattle.capability.specs.Snapshot.{snapshotOf};
-ghost use Rattle.capability.specs.View.{viewed};
+ghost use Rattle.capability.specs.View.{viewed, bodyOf, viewCopy};
 ghost use Rattle.harness.specs.Effects.{touchedNone, touchNumbers, touchChecked, modeNumber, modeAt};
 use address::Access;
 use address::ConfigOffset;
@@ -16,10 +16,11 @@ use capability::Placed;
 use capability::PlacedEffect;
 use capability::Snapshot;
 use capability::Touch;
+use capability::ViewCopy;
 use capability::effect_for_access;
-use capability::has_view;
 use capability::mode_of;
 use capability::snapshot_of;
+use capability::view_copy;
 
 const MODE_OUTSIDE: u8 = 0;
 
@@ -112,17 +113,18 @@ pub extern "C" fn harness_mode(placed: Placed, mask: &[u8], offset: usize) -> u8
     }
 }
 
-// Whether there is a view of the capability at an index in two lent images.
+// A copy of the view of the capability at an index, in the live one of two lent images or in the power-on one.
 #[no_mangle]
 pub extern "C" fn harness_view<'a>(
     placed: Placed,
     index: usize,
     live: &'a [u8],
     power: &'a [u8],
-) -> bool
-    ensures { λ r. ⌜ r ≡ viewed placed index (now (live .entry)) (now (power .entry)) configSpaceSize ⌝ }
+    from_live: bool,
+) -> ViewCopy
+    ensures { λ r. ⌜ r ≡ viewCopy (viewed placed index (now (live .entry)) (now (power .entry)) configSpaceSize) (bodyOf placed index (now (live .entry)) (now (power .entry)) configSpaceSize «from_live») ⌝ }
 {
-    has_view(placed, index, live, power, CONFIG_SPACE_SIZE, true)
+    view_copy(placed, index, live, power, CONFIG_SPACE_SIZE, from_live)
 }
 
 // A copy of the body of the capability at an index.

@@ -1,5 +1,5 @@
 // A test's tool: what the comparison in compare/ links, a few functions a rule, on numbers, byte slices and plain structs. It is not the product's boundary.
-// `harness_file` reads a declaration and takes nothing for granted. The others read none, and take for granted what a declaration would be refused for:
+// It reads no declaration, and takes for granted what one would be refused for:
 // - A count past its array counts as the array's length: capabilities, effects, config bytes, functions.
 // - `harness_layout` and `harness_effect` take a body length above the most as the most, and an access other than 1, 2 or 3 as read.
 // - `harness_layout` tests no effect for refusal 11, nor that effects come capability by capability. `harness_effect` adds to the last capability, whatever index the effect has.
@@ -7,7 +7,6 @@
 // - `harness_power_on`, `harness_config_bytes`, `harness_start` and the steps take identity, pin, BARs, images and placed capabilities as they are, and `harness_finish` moves a BAR where it is told.
 mod contents;
 mod effects;
-mod file;
 mod function;
 mod lists;
 mod places;
@@ -22,8 +21,6 @@ pub use effects::harness_mode;
 pub use effects::harness_snapshot;
 pub use effects::harness_touch;
 pub use effects::harness_view;
-pub use file::FileOut;
-pub use file::harness_file;
 pub use function::Bars;
 pub use function::ReadOut;
 pub use function::ResetOut;
