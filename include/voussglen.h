@@ -66,7 +66,7 @@ enum {
     VG_KIND_VALUE = 1,   /* a read: `value` */
     VG_KIND_STORED = 2,  /* a write: bits were stored where the mask has them */
     VG_KIND_DROPPED = 3, /* a write to a device that is not declared */
-    VG_KIND_PROBING = 4, /* a write of ones to a BAR: its register shows the size mask now */
+    VG_KIND_PROBING = 4, /* a BAR's register became all ones: it shows the size mask now */
     VG_KIND_MOVED = 5,   /* a write to a BAR: it lies at `address` now */
     VG_KIND_KEPT = 6,    /* a write to a BAR, not accepted: it lies at `address` still */
     VG_KIND_EFFECT = 7,  /* a read or a write inside an effect, which the caller carries out; nothing changed */
@@ -210,7 +210,7 @@ typedef struct vg_start_result {
     uint8_t refusal; /* 0 to 17 */
     bool in_file;    /* of a refusal: whether the place is `offset`; else it is `device` and `index` */
     uint8_t device;  /* refusals 9 and 12 to 17 */
-    size_t offset;   /* refusals 1 to 8, 10 and 11: where the field starts in the file */
+    size_t offset;   /* refusals 1 to 8, 10 and 11: where the field starts in the file; its length where 3 is given at the end */
     size_t index;    /* of the config byte (9), the capability (12, 13) or the slot (14 to 17) */
 } vg_start_result;
 
@@ -263,7 +263,7 @@ vg_lookup_result vg_lookup(const vg_bus *bus, vg_lookup_ask ask);
 /* Restores every function's config space and BARs, ends probing, and counts. */
 vg_reset_result vg_reset(vg_bus *bus);
 
-/* Reports a device as a guest would find it, by reads and writes. Where no BAR probes, the bus stays as it was. */
+/* Reports a device as a guest would find it, by reads and writes. Where no BAR of the device probes, the bus stays as it was. */
 vg_report vg_enumerate(vg_bus *bus, size_t device);
 
 /* The layout that the library was compiled for. */

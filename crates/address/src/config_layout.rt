@@ -10,6 +10,9 @@ pub const ACCESS_WIDTH_MOST: usize = 4;
 
 pub const CONFIG_VENDOR_ID_OFFSET: usize = 0x00;
 
+// The vendor that an absent function reads as.
+pub const ABSENT_VENDOR_ID: u16 = 0xffff;
+
 pub const CONFIG_DEVICE_ID_OFFSET: usize = 0x02;
 
 pub const CONFIG_COMMAND_OFFSET: usize = 0x04;

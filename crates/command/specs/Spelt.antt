@@ -8,7 +8,7 @@ unfoldable pub valueFrom : ℕ → ℕ → List ℕ → ℕ
 valueFrom base v [] = v
 valueFrom base v (c ∷ cs) = valueFrom base (v * base + digitOf c) cs
 
--- every byte is a digit of the base
+-- every byte is a digit of the base, which is 16 at most
 pub data Digits (base : ℕ) : List ℕ → Type 0 where
   none : Digits base []
   more : {c : ℕ} {cs : List ℕ} → digitOf c < base → Digits base cs → Digits base (c ∷ cs)

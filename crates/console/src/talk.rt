@@ -30,7 +30,7 @@ fn held_bytes<'a>(line: &'a [u8], held: Held) -> &'a [u8] {
     word::part(line, 0, held.length)
 }
 
-// Writes what is held of a line that is longer than the buffer: no command is, so it is shown.
+// Writes what is held of a line that is longer than the buffer: it is taken for no command, and shown.
 fn show(line: &[u8], held: Held) {
     if !held.long {
         io::write_all(STDOUT_FILENO, b"? ");

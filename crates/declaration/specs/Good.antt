@@ -6,7 +6,7 @@ use mathlib.Core.Path.{_≡_}
 use lib.ListN.{length, getD}
 use Rattle.word.specs.Interval.{covers}
 use Rattle.address.specs.Kinds.{slot}
-use Rattle.address.specs.Layout.{barCount, standardHeaderEnd}
+use Rattle.address.specs.Layout.{absentVendorId, barCount, standardHeaderEnd}
 use Rattle.address.specs.Limits.{Limits, functionRoom, capabilityRoom, effectRoom, configByteRoom}
 use Rattle.bar.specs.Bar.{Sized, noBar}
 use Rattle.bar.specs.Range.{fourGib}
@@ -50,7 +50,7 @@ pub record GoodAperture (a : Aperture) : Type 0 where
 
 -- a vendor that is not 0xffff, and numbers of their widths
 pub record GoodIdentity (i : Identity) : Type 0 where
-  pub present : i .vendor ≡ 0xffff → ⊥
+  pub present : i .vendor ≡ absentVendorId → ⊥
   pub vendor : i .vendor < 2 ^ 16
   pub device : i .device < 2 ^ 16
   pub subsystemVendor : i .«subsystem_vendor» < 2 ^ 16

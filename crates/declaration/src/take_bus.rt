@@ -12,15 +12,13 @@ use crate::so_far::no_mask;
 use crate::take::Taken;
 use crate::take::accepted;
 use crate::take::refused;
+use address::config_layout;
 use address::limits::FUNCTION_LIMIT;
 use bar::Aperture;
 use bar::ApertureAnswer;
 use config::Identity;
 
 const MOST_DEVICE: u8 = 31;
-
-// The vendor that an absent function reads as.
-const ABSENT: u16 = 0xffff;
 
 impl SoFar {
     pub(crate) fn take_aperture(self, start: u64, end: u64) -> Taken
@@ -82,7 +80,7 @@ impl SoFar {
         if bad {
             return refused(refusal::BAD_DEVICE_OR_SLOT, self);
         }
-        if vendor == ABSENT {
+        if vendor == config_layout::ABSENT_VENDOR_ID {
             return refused(refusal::ABSENT_VENDOR, self);
         }
         let mut out = self;

@@ -41,14 +41,13 @@ fn absent_report() -> Report
     }
 }
 
-// The vendor that an absent device reads as.
-const ABSENT: u16 = 0xffff;
-
 // Reports a device as a guest would find it.
 pub fn enumerate(bus: Bus, device: usize) -> Enumerated
     ensures { λ r. ⌜ r ≡ enumerateOf bus device ⌝ }
 {
-    if ask_word(bus, device, config_layout::CONFIG_VENDOR_ID_OFFSET) == ABSENT {
+    if ask_word(bus, device, config_layout::CONFIG_VENDOR_ID_OFFSET)
+        == config_layout::ABSENT_VENDOR_ID
+    {
         return Enumerated {
             report: absent_report(),
             bus,

@@ -1,4 +1,4 @@
--- What each function of the boundary answers and leaves, by the bus's own definitions.
+-- What each function of the boundary answers and leaves, by the bus's own definitions; `vg_enumerate` is `enumerateOf` itself.
 use Prim.Native.Nat.{ℕ}
 use mathlib.Core.List.{List}
 use Rattle.address.specs.Limits.{limits}

@@ -151,7 +151,7 @@ impl Bus {
         accepted(done.refusal, Place::Device(done.device))
     }
 
-    /// What a guest finds of a device, none where it is absent. Where no BAR probes, the bus stays as it was.
+    /// What a guest finds of a device, none where it is absent. Where no BAR of the device probes, the bus stays as it was.
     pub fn enumerate(&mut self, device: usize) -> Option<Report> {
         // SAFETY: the bus is ours alone.
         let found = unsafe { raw::vg_enumerate(&mut *self.raw, device) };

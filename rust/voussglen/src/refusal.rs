@@ -18,7 +18,7 @@ pub struct Refusal {
 pub enum Place {
     /// 18 and 19 have none.
     Nowhere,
-    /// 1 to 8, 10, 11: where the field starts in the file.
+    /// 1 to 8, 10, 11: where the field starts in the file; its length where 3 is given at the end.
     Offset(usize),
     /// 9, 12 to 17: a device, and the index of a config byte, a capability or a slot.
     Index { device: u8, index: usize },
