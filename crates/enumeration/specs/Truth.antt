@@ -83,11 +83,21 @@ Quiet s = (i : ℕ) → i < barCount → 0 < barAt (s .bars) i .plan .size → b
 abbrev pub Used : Bus → Bool → ℕ → ℕ → SlotReport → Type 0
 Used b decoding device i r = (x w : ℕ) → widthOk mostLookup w ≡ true → r .address ≤ x → x + w ≤ r .address + r .size → lookupOf b x w ≡ cond decoding (lookup.Hit device i (x - r .address)) lookup.Miss
 
+-- and no others: an access that is answered with that device and slot lies whole in the slot as it is reported, at the offset from the reported address
+pub record LiesIn (r : SlotReport) (x w o : ℕ) : Type 0 where
+  pub from : r .address ≤ x
+  pub to : x + w ≤ r .address + r .size
+  pub offset : o ≡ x - r .address
+
+abbrev pub UsedOnly : Bus → ℕ → ℕ → SlotReport → Type 0
+UsedOnly b device i r = (x w o : ℕ) → lookupOf b x w ≡ lookup.Hit device i o → LiesIn r x w o
+
 -- the truth about the function at index k, in device order, on a bus
 pub record Truth (d : Declaration) (b : Bus) (k : ℕ) : Type 0 where
   pub report : enumerateOf b (declaredFunction d k .device) .report ≡ declaredReport (declaredFunction d k) (functionAt b k)
   pub leaves : enumerateOf b (declaredFunction d k .device) .bus ≡ b
   pub uses : (i : ℕ) → i < barCount → Used b (decodes (functionAt b k)) (declaredFunction d k .device) i (slotIn (enumerateOf b (declaredFunction d k .device) .report) i)
+  pub only : (i : ℕ) → (sizeIn (declaredFunction d k) i ≡ fourGib → ⊥) → UsedOnly b (declaredFunction d k .device) i (slotIn (enumerateOf b (declaredFunction d k .device) .report) i)
 
 -- the demand
 abbrev pub Demand : Type 0
