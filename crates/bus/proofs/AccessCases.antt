@@ -41,7 +41,7 @@ pub record Shown (P : BusWriteDone → Type 0) (b : Bus) (o w v : ℕ) : Type 0 
   pub stored : (k : ℕ) (body : Snapshot) → k < countOn b → P (busDone Stored body (withFunction b k (writeOf (functionAt b k) o w v .state)))
   pub probing : (k i : ℕ) (body : Snapshot) → k < countOn b → P (busDone (Probing i) body (withFunction b k (writeOf (functionAt b k) o w v .state)))
   pub moved : (k i a : ℕ) → k < countOn b → i < barCount → accepts b k i a ≡ true → P (busDone (Moved i a) noBody (withFunction b k (relocatedIn (functionAt b k) i (relocation.Accepted a))))
-  pub kept : (k i : ℕ) → k < countOn b → i < barCount → P (busDone (Kept i (barAt (functionAt b k .bars) i .address)) noBody (withFunction b k (relocatedIn (functionAt b k) i relocation.Kept)))
+  pub kept : (k i a : ℕ) → k < countOn b → i < barCount → accepts b k i a ≡ false → P (busDone (Kept i (barAt (functionAt b k .bars) i .address)) noBody (withFunction b k (relocatedIn (functionAt b k) i relocation.Kept)))
 
 module _ (P : BusWriteDone → Type 0) (b : Bus) (o w v : ℕ) (s : Shown P b o w v) where
   module _ (k : ℕ) (h : k < countOn b) where
@@ -51,7 +51,7 @@ module _ (P : BusWriteDone → Type 0) (b : Bus) (o w v : ℕ) (s : Shown P b o 
     stepped body (writeAnswer.Probing i) e = s .probing k i body h
     stepped body (writeAnswer.Candidate i a) e =
         let l = candidate-slot (functionAt b k) o w v i a e in
-        ⊎-elim (λ (t : accepts b k i a ≡ true). rw t (s .moved k i a h l t)) (λ (t : accepts b k i a ≡ false). rw t (s .kept k i h l)) (true-or-false (accepts b k i a))
+        ⊎-elim (λ (t : accepts b k i a ≡ true). rw t (s .moved k i a h l t)) (λ (t : accepts b k i a ≡ false). rw t (s .kept k i a h l t)) (true-or-false (accepts b k i a))
     stepped body (writeAnswer.Effect id region offset) e = s .still (Effect id region offset) body refl
     stepped body writeAnswer.BadAccess e = s .still BadAccess body refl
     stepped body writeAnswer.BadEffect e = s .still BadEffect body refl

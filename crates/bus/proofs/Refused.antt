@@ -27,7 +27,7 @@ module _ (b : Bus) (device o w v : ℕ) where
   pub unchanged : changes (busWriteOf b device o w v .reply .answer) ≡ false → busWriteOf b device o w v .bus ≡ b
   unchanged =
       access-by (λ d. changes (d .reply .answer) ≡ false → d .bus ≡ b) b o w v
-      (record { still = λ a body q e. refl; stored = λ k body h e. absurd (both refl e); probing = λ k i body h e. absurd (both refl e); moved = λ k i a h l t e. absurd (both refl e); kept = λ k i h l e. absurd (both refl e) })
+      (record { still = λ a body q e. refl; stored = λ k body h e. absurd (both refl e); probing = λ k i body h e. absurd (both refl e); moved = λ k i a h l t e. absurd (both refl e); kept = λ k i a h l t e. absurd (both refl e) })
       device
 
   pub refused-changes-nothing : (busWriteNumber (busWriteOf b device o w v .reply .answer) ≡ accepted → ⊥) → busWriteOf b device o w v .bus ≡ b

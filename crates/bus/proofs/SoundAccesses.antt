@@ -47,7 +47,7 @@ module _ (d : Declaration) (b : Bus) (s : Sound d b) where
         moved = λ k i a h l t.
             let p = accepts-place b k i a t in
             sound-moved d b s k (declared k h) i l a (p .aligned) (p .within) (clear-of (range a (barAt (functionAt b k .bars) i .plan .size)) (keyOf k i) (p .free));
-        kept = λ k i h l. sound-kept d b s k (declared k h) i l;
+        kept = λ k i a h l t. sound-kept d b s k (declared k h) i l;
       })
       device
 
