@@ -8,7 +8,8 @@ use Rattle.address.specs.Limits.{functionRoom}
 use Rattle.bar.specs.State.{fresh}
 use Rattle.config.specs.Reset.{resetDone}
 use Rattle.config.specs.State.{barAt}
-use Rattle.config.proofs.Kept.{reset-state, reset-bars, reset-live, reset-same}
+use Rattle.config.proofs.Resets.{reset-state}
+use Rattle.config.proofs.Kept.{reset-bars, reset-live, reset-same}
 use Rattle.declaration.specs.declared.answer.Declaration.{Declaration}
 use Rattle.bus.specs.Bus.{countOn, functionAt}
 use Rattle.bus.specs.Reset.{busResetOf}
