@@ -17,7 +17,6 @@ use Rattle.bar.specs.declared.bar_state.Relocation.{Relocation}
 use Rattle.bar.specs.declared.bar_state.Relocation.the-variants as relocation
 use Rattle.bar.specs.declared.range.Range.{Range}
 use Rattle.bar.proofs.Ranges.{empty-second}
-use Rattle.config.specs.State.{barAt}
 use Rattle.config.specs.Write.{writeOf, relocatedIn}
 use Rattle.config.specs.declared.write_step.WriteAnswer.the-variants.{Candidate}
 use Rattle.declaration.specs.declared.answer.Declaration.{Declaration}
@@ -25,9 +24,8 @@ use Rattle.placement.specs.Keys.{keyCount}
 use Rattle.placement.specs.Place.{noRange}
 use Rattle.placement.proofs.Places.{Place, is-place, place-is}
 use Rattle.bus.specs.Acceptable.{rangeFrom, Acceptable, Settled}
-use Rattle.bus.specs.Access.{keyOf, rangeBut, rangesBut, accepts, settledOn, writtenOn, busWriteOf}
-use Rattle.bus.specs.Bus.{noFunctionState, countOn, functionAt, withFunction, rangeOn}
-use Rattle.bus.specs.Held.{barIn}
+use Rattle.bus.specs.Access.{rangeBut, rangesBut, accepts, settledOn, writtenOn, busWriteOf}
+use Rattle.bus.specs.Bus.{noFunctionState, countOn, functionAt, withFunction, rangeOn, keyOf, barIn}
 use Rattle.bus.specs.Sound.{Sound}
 use Rattle.bus.specs.Start.{declaredFunction}
 use Rattle.bus.specs.declared.state.Bus.{Bus}
@@ -51,9 +49,9 @@ unfolding rangesBut
 past-range b key n h = List·getD-eq-default (rangesBut b key) noRange {n = n} (rw (length-table keyCount (rangeBut b key)) h)
 
 -- an accepted candidate is a place among the others
-pub accepts-place : (b : Bus) (k i a : ℕ) → accepts b k i a ≡ true → Place (b .aperture) (barAt (functionAt b k .bars) i .plan .size) (rangesBut b (keyOf k i)) a
+pub accepts-place : (b : Bus) (k i a : ℕ) → accepts b k i a ≡ true → Place (b .aperture) (barIn b k i .plan .size) (rangesBut b (keyOf k i)) a
 unfolding accepts
-accepts-place b k i a e = place-is (b .aperture) (barAt (functionAt b k .bars) i .plan .size) (rangesBut b (keyOf k i)) a e
+accepts-place b k i a e = place-is (b .aperture) (barIn b k i .plan .size) (rangesBut b (keyOf k i)) a e
 
 module _ (b : Bus) (k i a : ℕ) (t : k < countOn b) (l : i < barCount) where
   abbrev key : ℕ
@@ -89,7 +87,7 @@ module _ (b : Bus) (k i a : ℕ) (t : k < countOn b) (l : i < barCount) where
 
     pub acceptable-accepts : accepts b k i a ≡ true
     unfolding accepts
-    acceptable-accepts = is-place (b .aperture) (barAt (functionAt b k .bars) i .plan .size) (rangesBut b key) a (record { aligned = c .aligned; within = c .within; free = free })
+    acceptable-accepts = is-place (b .aperture) (barIn b k i .plan .size) (rangesBut b key) a (record { aligned = c .aligned; within = c .within; free = free })
 
   -- so the answer says which, and the BAR is there
   module _ (m : k < length (b .functions)) (n : i < length (functionAt b k .bars)) where

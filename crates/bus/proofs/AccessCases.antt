@@ -1,6 +1,6 @@
 -- What a write by device can answer and leave: five cases. Whatever is shown of these holds of every write.
 use Prim.Native.Nat.{ℕ, _<_, _≤_}
-use mathlib.Core.Bool.{Bool, true, false}
+use mathlib.Core.Bool.{true, false}
 use mathlib.Core.Logic.{⊎-elim}
 use mathlib.Core.Path.{_≡_, refl}
 use Rattle.word.proofs.Tests.{below-or-not, true-or-false}
@@ -15,25 +15,13 @@ use Rattle.config.specs.Write.{writeOf, relocatedIn}
 use Rattle.config.specs.declared.write_step.WriteAnswer.{WriteAnswer}
 use Rattle.config.specs.declared.write_step.WriteAnswer.the-variants as writeAnswer
 use Rattle.bus.specs.Bus.{countOn, deviceAt, functionAt, indexOn, withFunction}
-use Rattle.bus.specs.Access.{accepts, busDone, steppedOn, absentWrite, writtenOn, busWriteOf}
+use Rattle.bus.specs.Access.{accepts, changes, busDone, steppedOn, absentWrite, writtenOn, busWriteOf}
 use Rattle.bus.specs.declared.state.Bus.{Bus}
 use Rattle.bus.specs.declared.write_access.BusWriteAnswer.{BusWriteAnswer}
 use Rattle.bus.specs.declared.write_access.BusWriteAnswer.the-variants.{Stored, Dropped, Probing, Moved, Kept, Effect, BadAccess, BadEffect, Exhausted}
 use Rattle.bus.specs.declared.write_access.BusWriteDone.{BusWriteDone}
 use Rattle.bus.proofs.Candidates.{candidate-slot}
 use Rattle.bus.proofs.Dispatch.{write-declared, write-absent}
-
--- whether an answer is one of a write that changes a function
-abbrev pub changes : BusWriteAnswer → Bool
-changes Stored = true
-changes Dropped = false
-changes (Probing slot) = true
-changes (Moved slot address) = true
-changes (Kept slot address) = true
-changes (Effect id region offset) = false
-changes BadAccess = false
-changes BadEffect = false
-changes (Exhausted device) = false
 
 -- what has to be shown of a write: one clause a case
 pub record Shown (P : BusWriteDone → Type 0) (b : Bus) (o w v : ℕ) : Type 0 where

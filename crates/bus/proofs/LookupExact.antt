@@ -17,10 +17,9 @@ use Rattle.bar.specs.State.{rangeOf}
 use Rattle.bar.proofs.Ranges.{In, common-meets}
 use Rattle.placement.specs.Keys.{keyCount}
 use Rattle.declaration.specs.declared.answer.Declaration.{Declaration}
-use Rattle.bus.specs.Bus.{countOn, deviceAt, functionAt}
-use Rattle.bus.specs.Access.{keyOf}
+use Rattle.bus.specs.Bus.{countOn, deviceAt, functionAt, keyOf, barIn}
 use Rattle.bus.specs.Lookup.{mostLookup, decodes, holdsAt, lookupOf, lookupNumber}
-use Rattle.bus.specs.Held.{barIn, Held, Looked, hit, miss, bad-width}
+use Rattle.bus.specs.Held.{Held, Looked, hit, miss, bad-width}
 use Rattle.bus.specs.Sound.{Sound}
 use Rattle.bus.specs.Start.{declaredFunction}
 use Rattle.bus.specs.declared.state.Bus.{Bus}

@@ -4,11 +4,11 @@ use mathlib.Core.Bool.{true, false}
 use mathlib.Core.Path.{_≡_, refl}
 use Rattle.refusal.specs.Number.{accepted}
 use Rattle.word.proofs.Tests.{both, never}
-use Rattle.bus.specs.Access.{busWriteNumber, busWriteOf}
+use Rattle.bus.specs.Access.{busWriteNumber, busWriteOf, changes}
 use Rattle.bus.specs.declared.state.Bus.{Bus}
 use Rattle.bus.specs.declared.write_access.BusWriteAnswer.{BusWriteAnswer}
 use Rattle.bus.specs.declared.write_access.BusWriteAnswer.the-variants.{Stored, Dropped, Probing, Moved, Kept, Effect, BadAccess, BadEffect, Exhausted}
-use Rattle.bus.proofs.AccessCases.{changes, access-by}
+use Rattle.bus.proofs.AccessCases.{access-by}
 
 -- whatever changes a function is accepted
 changes-accepted : (a : BusWriteAnswer) → changes a ≡ true → busWriteNumber a ≡ accepted

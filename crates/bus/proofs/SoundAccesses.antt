@@ -13,8 +13,8 @@ use Rattle.config.specs.State.{barAt}
 use Rattle.placement.specs.Keys.{keyCount}
 use Rattle.placement.specs.Place.{noRange}
 use Rattle.declaration.specs.declared.answer.Declaration.{Declaration}
-use Rattle.bus.specs.Bus.{countOn, functionAt, rangeOn}
-use Rattle.bus.specs.Access.{keyOf, rangesBut, busWriteOf}
+use Rattle.bus.specs.Bus.{countOn, functionAt, rangeOn, keyOf}
+use Rattle.bus.specs.Access.{rangesBut, busWriteOf}
 use Rattle.bus.specs.Reset.{resetFirst, busResetOf}
 use Rattle.bus.specs.Sound.{Sound}
 use Rattle.bus.specs.declared.state.Bus.{Bus}

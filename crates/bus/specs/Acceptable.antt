@@ -6,8 +6,7 @@ use Rattle.address.specs.Layout.{barCount}
 use Rattle.bar.specs.Range.{range, multiple, liesIn, meets}
 use Rattle.bar.specs.State.{rangeOf}
 use Rattle.bar.specs.declared.range.Range.{Range}
-use Rattle.bus.specs.Bus.{countOn}
-use Rattle.bus.specs.Held.{barIn}
+use Rattle.bus.specs.Bus.{countOn, barIn}
 use Rattle.bus.specs.declared.state.Bus.{Bus}
 use Rattle.bus.specs.declared.write_access.BusWriteAnswer.{BusWriteAnswer}
 use Rattle.bus.specs.declared.write_access.BusWriteAnswer.the-variants.{Moved, Kept}
