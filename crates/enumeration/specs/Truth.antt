@@ -83,7 +83,7 @@ Quiet s = (i : ℕ) → i < barCount → 0 < barAt (s .bars) i .plan .size → b
 abbrev pub Used : Bus → Bool → ℕ → ℕ → SlotReport → Type 0
 Used b decoding device i r = (x w : ℕ) → widthOk mostLookup w ≡ true → r .address ≤ x → x + w ≤ r .address + r .size → lookupOf b x w ≡ cond decoding (lookup.Hit device i (x - r .address)) lookup.Miss
 
--- and no others: an access that is answered with that device and slot lies whole in the slot as it is reported, at the offset from the reported address
+-- and no others: an access that is answered with that device and slot lies whole in the slot as it is reported, at the offset from the reported address. A 4 GiB BAR, whose slot is reported as empty, is left out
 pub record LiesIn (r : SlotReport) (x w o : ℕ) : Type 0 where
   pub from : r .address ≤ x
   pub to : x + w ≤ r .address + r .size
