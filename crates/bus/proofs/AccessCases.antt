@@ -1,6 +1,6 @@
 -- What a write by device can answer and leave: five cases. Whatever is shown of these holds of every write.
 use Prim.Native.Nat.{ℕ, _<_, _≤_}
-use mathlib.Core.Bool.{Bool, true, false}
+use mathlib.Core.Bool.{true, false}
 use mathlib.Core.Logic.{⊎-elim}
 use mathlib.Core.Path.{_≡_, refl}
 use Rattle.word.proofs.Tests.{below-or-not, true-or-false}
@@ -15,7 +15,7 @@ use Rattle.config.specs.Write.{writeOf, relocatedIn}
 use Rattle.config.specs.declared.write_step.WriteAnswer.{WriteAnswer}
 use Rattle.config.specs.declared.write_step.WriteAnswer.the-variants as writeAnswer
 use Rattle.bus.specs.Bus.{countOn, deviceAt, functionAt, indexOn, withFunction}
-use Rattle.bus.specs.Access.{accepts, busDone, steppedOn, absentWrite, writtenOn, busWriteOf}
+use Rattle.bus.specs.Access.{accepts, changes, busDone, steppedOn, absentWrite, writtenOn, busWriteOf}
 use Rattle.bus.specs.declared.state.Bus.{Bus}
 use Rattle.bus.specs.declared.write_access.BusWriteAnswer.{BusWriteAnswer}
 use Rattle.bus.specs.declared.write_access.BusWriteAnswer.the-variants.{Stored, Dropped, Probing, Moved, Kept, Effect, BadAccess, BadEffect, Exhausted}
@@ -23,25 +23,13 @@ use Rattle.bus.specs.declared.write_access.BusWriteDone.{BusWriteDone}
 use Rattle.bus.proofs.Candidates.{candidate-slot}
 use Rattle.bus.proofs.Dispatch.{write-declared, write-absent}
 
--- whether an answer is one of a write that changes a function
-abbrev pub changes : BusWriteAnswer → Bool
-changes Stored = true
-changes Dropped = false
-changes (Probing slot) = true
-changes (Moved slot address) = true
-changes (Kept slot address) = true
-changes (Effect id region offset) = false
-changes BadAccess = false
-changes BadEffect = false
-changes (Exhausted device) = false
-
 -- what has to be shown of a write: one clause a case
 pub record Shown (P : BusWriteDone → Type 0) (b : Bus) (o w v : ℕ) : Type 0 where
   pub still : (a : BusWriteAnswer) (body : Snapshot) → changes a ≡ false → P (busDone a body b)
   pub stored : (k : ℕ) (body : Snapshot) → k < countOn b → P (busDone Stored body (withFunction b k (writeOf (functionAt b k) o w v .state)))
   pub probing : (k i : ℕ) (body : Snapshot) → k < countOn b → P (busDone (Probing i) body (withFunction b k (writeOf (functionAt b k) o w v .state)))
   pub moved : (k i a : ℕ) → k < countOn b → i < barCount → accepts b k i a ≡ true → P (busDone (Moved i a) noBody (withFunction b k (relocatedIn (functionAt b k) i (relocation.Accepted a))))
-  pub kept : (k i : ℕ) → k < countOn b → i < barCount → P (busDone (Kept i (barAt (functionAt b k .bars) i .address)) noBody (withFunction b k (relocatedIn (functionAt b k) i relocation.Kept)))
+  pub kept : (k i a : ℕ) → k < countOn b → i < barCount → accepts b k i a ≡ false → P (busDone (Kept i (barAt (functionAt b k .bars) i .address)) noBody (withFunction b k (relocatedIn (functionAt b k) i relocation.Kept)))
 
 module _ (P : BusWriteDone → Type 0) (b : Bus) (o w v : ℕ) (s : Shown P b o w v) where
   module _ (k : ℕ) (h : k < countOn b) where
@@ -51,7 +39,7 @@ module _ (P : BusWriteDone → Type 0) (b : Bus) (o w v : ℕ) (s : Shown P b o 
     stepped body (writeAnswer.Probing i) e = s .probing k i body h
     stepped body (writeAnswer.Candidate i a) e =
         let l = candidate-slot (functionAt b k) o w v i a e in
-        ⊎-elim (λ (t : accepts b k i a ≡ true). rw t (s .moved k i a h l t)) (λ (t : accepts b k i a ≡ false). rw t (s .kept k i h l)) (true-or-false (accepts b k i a))
+        ⊎-elim (λ (t : accepts b k i a ≡ true). rw t (s .moved k i a h l t)) (λ (t : accepts b k i a ≡ false). rw t (s .kept k i a h l t)) (true-or-false (accepts b k i a))
     stepped body (writeAnswer.Effect id region offset) e = s .still (Effect id region offset) body refl
     stepped body writeAnswer.BadAccess e = s .still BadAccess body refl
     stepped body writeAnswer.BadEffect e = s .still BadEffect body refl

@@ -16,8 +16,8 @@ use Rattle.bar.specs.declared.range.Range.{Range}
 use Rattle.config.specs.State.{barAt}
 use Rattle.placement.specs.Keys.{keyCount}
 use Rattle.placement.specs.Place.{noRange}
-use Rattle.bus.specs.Bus.{countOn, functionAt, barOn, rangeOn, rangesOn}
-use Rattle.bus.specs.Access.{keyOf, rangeBut, rangesBut}
+use Rattle.bus.specs.Bus.{countOn, functionAt, barOn, rangeOn, rangesOn, keyOf}
+use Rattle.bus.specs.Access.{rangeBut, rangesBut}
 use Rattle.bus.specs.declared.state.Bus.{Bus}
 
 module _ (b : Bus) (key : ℕ) where

@@ -59,6 +59,10 @@ module _ (d : Declaration) (b : Bus) (s : Sound d b) where
     pub sound-written : (o w v : ℕ) → busWriteOf b (declaredFunction d k .device) o w v ≡ writtenOn b k o w v
     sound-written o w v = write-declared b (declaredFunction d k .device) o w v found ∙ rw sound-index
 
+  -- no two functions have one device
+  pub sound-only : (j k : ℕ) → j < d .count → k < d .count → declaredFunction d k .device ≡ deviceAt b j → j ≡ k
+  sound-only j k m h e = sym (sound-index j m) ∙ rw (← sound-device j m, ← e) (sound-index k h)
+
   -- a device of no declared function
   module _ (device : ℕ) (none : (k : ℕ) → k < d .count → declaredFunction d k .device ≡ device → ⊥) where
     pub sound-no-index : indexOn b device ≡ countOn b

@@ -17,15 +17,16 @@ use Rattle.bar.specs.State.{rangeOf}
 use Rattle.bar.proofs.Ranges.{In, common-meets}
 use Rattle.placement.specs.Keys.{keyCount}
 use Rattle.declaration.specs.declared.answer.Declaration.{Declaration}
-use Rattle.bus.specs.Bus.{countOn, deviceAt, functionAt}
-use Rattle.bus.specs.Access.{keyOf}
+use Rattle.bus.specs.Bus.{countOn, deviceAt, functionAt, keyOf, barIn}
 use Rattle.bus.specs.Lookup.{mostLookup, decodes, holdsAt, lookupOf, lookupNumber}
-use Rattle.bus.specs.Held.{barIn, Held, Looked, hit, miss, bad-width}
+use Rattle.bus.specs.Held.{Held, Looked, hit, miss, bad-width}
 use Rattle.bus.specs.Sound.{Sound}
+use Rattle.bus.specs.Start.{declaredFunction}
 use Rattle.bus.specs.declared.state.Bus.{Bus}
 use Rattle.bus.specs.declared.memory_lookup.LookupAnswer.{LookupAnswer}
 use Rattle.bus.specs.declared.memory_lookup.LookupAnswer.the-variants.{Hit, Miss}
 use Rattle.bus.proofs.Committed.{range-there, range-past, range-slot}
+use Rattle.bus.proofs.Devices.{sound-only}
 use Rattle.bus.proofs.Lookups.{lookup-width, lookup-hit, lookup-miss, holds-decodes, holds-from, holds-to}
 use Rattle.bus.proofs.SoundParts.{sound-count}
 
@@ -75,6 +76,10 @@ module _ (b : Bus) (a w : ℕ) where
 
   pub hit-held : (device slot offset : ℕ) → lookupOf b a w ≡ Hit device slot offset → (k : ℕ) × Held b a w k slot × (device ≡ deviceAt b k) × (offset ≡ a - barIn b k slot .address)
   hit-held device slot offset q = when-hit (lookupOf b a w) device slot offset lookup-looked q
+
+  pub hit-width : (device slot offset : ℕ) → lookupOf b a w ≡ Hit device slot offset → widthOk mostLookup w ≡ true
+  hit-width device slot offset q =
+      ⊎-elim (λ (e : widthOk mostLookup w ≡ true). e) (λ (e : widthOk mostLookup w ≡ false). let z : _≡_ {A = ℕ} 0 1 = cc (lookup-width b a w e) in absurd (omega arith)) (true-or-false (widthOk mostLookup w))
 
   -- a miss means that none holds it
   when-miss : (r : LookupAnswer) → Looked b a w r → r ≡ Miss → (k i : ℕ) → Held b a w k i → ⊥
@@ -136,3 +141,10 @@ module _ (d : Declaration) (b : Bus) (s : Sound d b) where
       (λ (t : decodes (functionAt b k) ≡ false).
       rw (t, none-miss b a w e (λ j m p. let q = range-one a j m k i (p .there) (p .slot) n l (held-in a w e j m p) (record { from = f; below = omega (arith, width-pos mostLookup w e) }) in both (rw (q .0) at (p .decoding)) t)))
       (true-or-false (decodes (functionAt b k)))
+
+  -- a hit with a declared function's device is of a BAR of that function
+  pub hit-its : (k : ℕ) → k < d .count → (a w slot offset : ℕ) → lookupOf b a w ≡ Hit (declaredFunction d k .device) slot offset → Held b a w k slot × (offset ≡ a - barIn b k slot .address)
+  hit-its k h a w slot offset q =
+      let r = hit-held b a w (declaredFunction d k .device) slot offset q in
+      let e : r .0 ≡ k = sound-only d b s (r .0) k (rw (sound-count d b s) at (r .1 .there)) h (r .2) in
+      (rw e at (r .1), rw (← e) (r .3))

@@ -6,9 +6,8 @@ use native.Mathlib.Omega.{arith}
 use Rattle.address.specs.Layout.{barCount}
 use Rattle.bar.specs.State.{rangeOf}
 use Rattle.declaration.specs.declared.answer.Declaration.{Declaration}
-use Rattle.bus.specs.Access.{keyOf, accepts}
-use Rattle.bus.specs.Bus.{countOn, rangeOn}
-use Rattle.bus.specs.Held.{barIn}
+use Rattle.bus.specs.Access.{accepts}
+use Rattle.bus.specs.Bus.{countOn, rangeOn, keyOf, barIn}
 use Rattle.bus.specs.Sound.{Sound}
 use Rattle.bus.specs.declared.state.Bus.{Bus}
 use Rattle.bus.proofs.AcceptExact.{acceptable-accepts}

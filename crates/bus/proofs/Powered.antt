@@ -1,5 +1,5 @@
 -- The bus of a declaration, part by part: its devices, its functions, their BARs, and the range at each key.
-use Prim.Native.Nat.{ℕ, _+_, _*_, _/_, _%_, _<_, _≤_}
+use Prim.Native.Nat.{ℕ, _/_, _%_, _<_, _≤_}
 use mathlib.Core.List.{List}
 use mathlib.Core.Logic.{⊎-elim}
 use mathlib.Core.Path.{_≡_, refl, _∙_}
@@ -22,7 +22,7 @@ use Rattle.placement.specs.Order.{rangeAt}
 use Rattle.placement.specs.Place.{noRange}
 use Rattle.declaration.specs.Good.{Bytes, Good}
 use Rattle.declaration.specs.declared.answer.Declaration.{Declaration}
-use Rattle.bus.specs.Bus.{noFunctionState, countOn, deviceAt, functionAt, rangeOn}
+use Rattle.bus.specs.Bus.{noFunctionState, countOn, deviceAt, functionAt, keyOf, rangeOn}
 use Rattle.bus.specs.Start.{declaredFunction, declaredBars, planAt, barsPlaced, placedIn, functionStart, devicesOf, functionsOf, busOf}
 use Rattle.bus.specs.Sound.{AtPowerOn}
 use Rattle.bus.proofs.Keyed.{key-bar}
@@ -126,7 +126,7 @@ module _ (d : Declaration) (g : Good d) (addresses : List ℕ) where
   bus-range key h =
       let k = key / barCount in
       let i = key % barCount in
-      let n : k * barCount + i ≡ key = omega arith in
+      let n : keyOf k i ≡ key = omega arith in
       rw (bus-countOn, lt-ltb k (d .count) h, bus-function k h, start-bar (declaredFunction d k) addresses k i (mod-lt key (omega arith)), n, ← key-bar d g key h)
 
   pub bus-no-range : (key : ℕ) → d .count ≤ key / barCount → rangeOn (busOf d addresses) key ≡ noRange

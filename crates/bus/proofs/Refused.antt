@@ -4,11 +4,11 @@ use mathlib.Core.Bool.{true, false}
 use mathlib.Core.Path.{_≡_, refl}
 use Rattle.refusal.specs.Number.{accepted}
 use Rattle.word.proofs.Tests.{both, never}
-use Rattle.bus.specs.Access.{busWriteNumber, busWriteOf}
+use Rattle.bus.specs.Access.{busWriteNumber, busWriteOf, changes}
 use Rattle.bus.specs.declared.state.Bus.{Bus}
 use Rattle.bus.specs.declared.write_access.BusWriteAnswer.{BusWriteAnswer}
 use Rattle.bus.specs.declared.write_access.BusWriteAnswer.the-variants.{Stored, Dropped, Probing, Moved, Kept, Effect, BadAccess, BadEffect, Exhausted}
-use Rattle.bus.proofs.AccessCases.{changes, access-by}
+use Rattle.bus.proofs.AccessCases.{access-by}
 
 -- whatever changes a function is accepted
 changes-accepted : (a : BusWriteAnswer) → changes a ≡ true → busWriteNumber a ≡ accepted
@@ -27,7 +27,7 @@ module _ (b : Bus) (device o w v : ℕ) where
   pub unchanged : changes (busWriteOf b device o w v .reply .answer) ≡ false → busWriteOf b device o w v .bus ≡ b
   unchanged =
       access-by (λ d. changes (d .reply .answer) ≡ false → d .bus ≡ b) b o w v
-      (record { still = λ a body q e. refl; stored = λ k body h e. absurd (both refl e); probing = λ k i body h e. absurd (both refl e); moved = λ k i a h l t e. absurd (both refl e); kept = λ k i h l e. absurd (both refl e) })
+      (record { still = λ a body q e. refl; stored = λ k body h e. absurd (both refl e); probing = λ k i body h e. absurd (both refl e); moved = λ k i a h l t e. absurd (both refl e); kept = λ k i a h l t e. absurd (both refl e) })
       device
 
   pub refused-changes-nothing : (busWriteNumber (busWriteOf b device o w v .reply .answer) ≡ accepted → ⊥) → busWriteOf b device o w v .bus ≡ b

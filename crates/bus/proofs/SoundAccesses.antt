@@ -13,8 +13,8 @@ use Rattle.config.specs.State.{barAt}
 use Rattle.placement.specs.Keys.{keyCount}
 use Rattle.placement.specs.Place.{noRange}
 use Rattle.declaration.specs.declared.answer.Declaration.{Declaration}
-use Rattle.bus.specs.Bus.{countOn, functionAt, rangeOn}
-use Rattle.bus.specs.Access.{keyOf, rangesBut, busWriteOf}
+use Rattle.bus.specs.Bus.{countOn, functionAt, rangeOn, keyOf}
+use Rattle.bus.specs.Access.{rangesBut, busWriteOf}
 use Rattle.bus.specs.Reset.{resetFirst, busResetOf}
 use Rattle.bus.specs.Sound.{Sound}
 use Rattle.bus.specs.declared.state.Bus.{Bus}
@@ -47,7 +47,7 @@ module _ (d : Declaration) (b : Bus) (s : Sound d b) where
         moved = λ k i a h l t.
             let p = accepts-place b k i a t in
             sound-moved d b s k (declared k h) i l a (p .aligned) (p .within) (clear-of (range a (barAt (functionAt b k .bars) i .plan .size)) (keyOf k i) (p .free));
-        kept = λ k i h l. sound-kept d b s k (declared k h) i l;
+        kept = λ k i a h l t. sound-kept d b s k (declared k h) i l;
       })
       device
 

@@ -1,5 +1,5 @@
 -- A bus stays sound where one function of it is changed by a write or by the end of a relocation, and where all are reset: ranges stay as they are, or one moves to a place, or all are as they were placed.
-use Prim.Native.Nat.{ℕ, _+_, _*_, _/_, _%_, _<_, _≤_}
+use Prim.Native.Nat.{ℕ, _/_, _%_, _<_, _≤_}
 use mathlib.Core.Bool.{true, false}
 use mathlib.Core.List.{List}
 use mathlib.Core.Logic.{⊎-elim}
@@ -23,7 +23,7 @@ use Rattle.config.specs.Write.{writeOf, relocatedIn}
 use Rattle.config.specs.declared.state.FunctionState.{FunctionState}
 use Rattle.config.proofs.Kept.{write-same, write-keeps-address, other-slot, reset-bars}
 use Rattle.declaration.specs.declared.answer.Declaration.{Declaration}
-use Rattle.bus.specs.Bus.{noFunctionState, functionAt, rangeOn, withFunction}
+use Rattle.bus.specs.Bus.{noFunctionState, functionAt, keyOf, rangeOn, withFunction}
 use Rattle.bus.specs.Sound.{startedFunction, planOn, Clear, SoundFunction, Sound}
 use Rattle.bus.specs.declared.state.Bus.{Bus}
 use Rattle.bus.proofs.SoundParts.{sound-count}
@@ -114,7 +114,7 @@ module _ (d : Declaration) (b : Bus) (s : Sound d b) where
 
     module _ (i : ℕ) (l : i < barCount) where
       abbrev key : ℕ
-      key = k * barCount + i
+      key = keyOf k i
 
       abbrev f : FunctionState
       f = functionAt b k

@@ -16,8 +16,7 @@ use Rattle.bar.proofs.Registers.{placed-address}
 use Rattle.config.specs.State.{barAt}
 use Rattle.declaration.specs.declared.answer.Declaration.{Declaration}
 use Rattle.placement.specs.Place.{noRange}
-use Rattle.bus.specs.Bus.{functionAt, barOn, rangeOn}
-use Rattle.bus.specs.Access.{keyOf}
+use Rattle.bus.specs.Bus.{functionAt, barOn, rangeOn, keyOf}
 use Rattle.bus.specs.Start.{declaredFunction, placementIn}
 use Rattle.bus.specs.Sound.{startedBus, planOn, Clear, Sound}
 use Rattle.bus.specs.declared.state.Bus.{Bus}

@@ -16,7 +16,8 @@ use Rattle.config.specs.Same.{Same}
 use Rattle.config.specs.State.{barAt, slotAt}
 use Rattle.config.specs.Write.{writeOf, relocatedIn}
 use Rattle.config.specs.declared.state.FunctionState.{FunctionState}
-use Rattle.config.proofs.Kept.{write-same, relocation-same, reset-same, reset-live, reset-state, unmasked-bit-stays}
+use Rattle.config.proofs.Resets.{reset-state}
+use Rattle.config.proofs.Kept.{write-same, relocation-same, reset-same, reset-live, unmasked-bit-stays}
 use Rattle.config.proofs.WriteCases.{state-by}
 use Rattle.declaration.specs.Good.{Good}
 use Rattle.declaration.specs.declared.answer.Declaration.{Declaration}

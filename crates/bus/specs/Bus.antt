@@ -52,9 +52,17 @@ declaredOn b device = ltb (indexOn b device) (countOn b)
 abbrev pub withFunction : Bus → ℕ → FunctionState → Bus
 withFunction b k f = record { aperture = b .aperture; devices = b .devices; functions = set (b .functions) k f; count = b .count }
 
--- the BAR at a key, function · 6 + slot
+-- the BAR in slot i of function k
+abbrev pub barIn : Bus → ℕ → ℕ → BarState
+barIn b k i = barAt (functionAt b k .bars) i
+
+-- the key of that slot, function · 6 + slot
+abbrev pub keyOf : ℕ → ℕ → ℕ
+keyOf k i = k * barCount + i
+
+-- the BAR at a key
 abbrev pub barOn : Bus → ℕ → BarState
-barOn b key = barAt (functionAt b (key / barCount) .bars) (key % barCount)
+barOn b key = barIn b (key / barCount) (key % barCount)
 
 -- its committed range; the empty one where there is no such function
 unfoldable pub rangeOn : Bus → ℕ → Range

@@ -6,17 +6,11 @@ use Rattle.word.specs.Width.{widthOk}
 use Rattle.address.specs.Layout.{barCount}
 use Rattle.bar.specs.Range.{endOf}
 use Rattle.bar.specs.State.{rangeOf}
-use Rattle.bar.specs.declared.bar_state.BarState.{BarState}
-use Rattle.config.specs.State.{barAt}
-use Rattle.bus.specs.Bus.{countOn, deviceAt, functionAt}
+use Rattle.bus.specs.Bus.{countOn, deviceAt, functionAt, barIn}
 use Rattle.bus.specs.Lookup.{mostLookup, decodes}
 use Rattle.bus.specs.declared.state.Bus.{Bus}
 use Rattle.bus.specs.declared.memory_lookup.LookupAnswer.{LookupAnswer}
 use Rattle.bus.specs.declared.memory_lookup.LookupAnswer.the-variants.{Hit, Miss, BadWidth}
-
--- the BAR in slot i of function k
-abbrev pub barIn : Bus → ℕ → ℕ → BarState
-barIn b k i = barAt (functionAt b k .bars) i
 
 -- that BAR holds the access: the function is there and decodes, and the whole access lies in the committed range
 pub record Held (b : Bus) (address width k i : ℕ) : Type 0 where

@@ -1,5 +1,5 @@
 -- A bus from the bytes of a file (document 01): the declaration's answer, then placement, then power-on images.
-use Prim.Native.Nat.{ℕ, _+_, _*_}
+use Prim.Native.Nat.{ℕ}
 use mathlib.Core.List.{List}
 use lib.ListN.{getD}
 use Rattle.word.specs.Table.{table, filled}
@@ -29,7 +29,7 @@ use Rattle.declaration.specs.declared.answer.DeclarationAnswer.{DeclarationAnsw
 use Rattle.declaration.specs.declared.answer.DeclarationAnswer.the-variants as answer
 use Rattle.declaration.specs.declared.answer.Place.{Place}
 use Rattle.declaration.specs.declared.answer.Place.the-variants as place
-use Rattle.bus.specs.Bus.{noFunctionState, emptyBus}
+use Rattle.bus.specs.Bus.{noFunctionState, emptyBus, keyOf}
 use Rattle.bus.specs.declared.state.Bus.{Bus}
 use Rattle.bus.specs.declared.power_up.Started.{Started}
 
@@ -45,7 +45,7 @@ declaredBars d = record { count = d .count; functions = table functionRoom (λ k
 
 -- a function at power-on: each BAR as it was placed, the capabilities as they are laid out
 abbrev pub planAt : Function → List ℕ → ℕ → ℕ → Plan
-planAt f addresses k i = record { slot = slot i; size = getD (f .bars) i noBar .size; address = getD addresses (k * barCount + i) 0 }
+planAt f addresses k i = record { slot = slot i; size = getD (f .bars) i noBar .size; address = getD addresses (keyOf k i) 0 }
 
 unfoldable pub barsPlaced : Function → List ℕ → ℕ → List BarState
 barsPlaced f addresses k = table barCount (λ i. fresh (planAt f addresses k i))

@@ -11,7 +11,7 @@ use lib.Dec.{ltb}
 use lib.ListN.{length}
 use Rattle.word.proofs.Tests.{true-or-false, both, and-left, and-right}
 use Rattle.command.specs.Numeral.{digitOf, noNumber, numeralFrom, numeralOf}
-use Rattle.command.specs.Spelt.{valueFrom, Digits, none, more}
+use Rattle.command.specs.Spelt.{valueFrom, Digits, none, more, Spells}
 
 module _ (base : ℕ) (some : 0 < base) where
   -- digits never make a number smaller
@@ -30,11 +30,6 @@ module _ (base : ℕ) (some : 0 < base) where
       rw (t, u) (numeral-there (v * base + digitOf c) cs ds h)
 
 -- and nothing else is a number
-pub record Spells (base v : ℕ) (w : List ℕ) (value : ℕ) : Type 0 where
-  pub digits : Digits base w
-  pub fits : valueFrom base v w < 2 ^ 64
-  pub is : value ≡ valueFrom base v w
-
 module _ (base : ℕ) where
   numeral-step : (v c : ℕ) (cs : List ℕ) (t : Bool) → (ltb (digitOf c) base && ltb (v * base + digitOf c) (2 ^ 64)) ≡ t → numeralFrom base v (c ∷ cs) ≡ cond t (numeralFrom base (v * base + digitOf c) cs) noNumber
   unfolding numeralFrom

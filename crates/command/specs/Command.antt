@@ -23,9 +23,9 @@ wordLength line at = firstBelow (λ k. eqb (getD line (at + k) 0) space) (length
 abbrev pub wordAt : List ℕ → ℕ → List ℕ
 wordAt line at = partOf line at (wordLength line at)
 
--- before the first argument: the line goes on after its letter
-abbrev pub firstArgument : Argument
-firstArgument = record { good = true; value = 0; next = 1 }
+-- what stands before the first argument: the line goes on after its letter
+abbrev pub afterLetter : Argument
+afterLetter = record { good = true; value = 0; next = 1 }
 
 abbrev pub noArgument : Argument
 noArgument = record { good = false; value = 0; next = 0 }
@@ -51,12 +51,13 @@ decimalAfter line last = argumentOf line last 10
 abbrev pub endedBy : List ℕ → Argument → Bool
 endedBy line last = last .good && eqb (last .next) (length line)
 
--- the arguments of an access: device, offset and width
-abbrev pub deviceIn : List ℕ → Argument
-deviceIn line = hexAfter line firstArgument
+-- the first argument: the device of an access, the address of a lookup
+abbrev pub firstIn : List ℕ → Argument
+firstIn line = hexAfter line afterLetter
 
+-- those that follow in an access: offset, width and value
 abbrev pub offsetIn : List ℕ → Argument
-offsetIn line = hexAfter line (deviceIn line)
+offsetIn line = hexAfter line (firstIn line)
 
 abbrev pub widthIn : List ℕ → Argument
 widthIn line = decimalAfter line (offsetIn line)
@@ -66,25 +67,25 @@ valueIn line = hexAfter line (widthIn line)
 
 -- "r DEV OFF WIDTH"
 unfoldable pub readBy : List ℕ → Command
-readBy line = cond (endedBy line (widthIn line)) (Read (deviceIn line .value) (offsetIn line .value) (widthIn line .value)) Unknown
+readBy line = cond (endedBy line (widthIn line)) (Read (firstIn line .value) (offsetIn line .value) (widthIn line .value)) Unknown
 
 -- "w DEV OFF WIDTH VALUE"
 unfoldable pub writeBy : List ℕ → Command
 writeBy line =
-    cond (endedBy line (valueIn line)) (Write (deviceIn line .value) (offsetIn line .value) (widthIn line .value) (valueIn line .value)) Unknown
+    cond (endedBy line (valueIn line)) (Write (firstIn line .value) (offsetIn line .value) (widthIn line .value) (valueIn line .value)) Unknown
 
 -- "m ADDR WIDTH"
 unfoldable pub lookupBy : List ℕ → Command
 lookupBy line =
-    cond (endedBy line (decimalAfter line (deviceIn line))) (Lookup (deviceIn line .value) (decimalAfter line (deviceIn line) .value)) Unknown
+    cond (endedBy line (decimalAfter line (firstIn line))) (Lookup (firstIn line .value) (decimalAfter line (firstIn line) .value)) Unknown
 
 -- "e DEV", "v DEV"
 unfoldable pub deviceBy : List ℕ → (ℕ → Command) → Command
-deviceBy line asks = cond (endedBy line (deviceIn line)) (asks (deviceIn line .value)) Unknown
+deviceBy line asks = cond (endedBy line (firstIn line)) (asks (firstIn line .value)) Unknown
 
 -- "z", "x": the letter alone
 unfoldable pub aloneBy : List ℕ → Command → Command
-aloneBy line command = cond (endedBy line firstArgument) command Unknown
+aloneBy line command = cond (endedBy line afterLetter) command Unknown
 
 -- what a letter asks, given the line
 abbrev pub commandBy : ℕ → List ℕ → Command

@@ -2,7 +2,7 @@
 ghost use mathlib.Core.Path.{_≡_};
 ghost use mathlib.Core.Bool.{true, false};
 ghost use Prim.Native.Nat.{_<_, _≤_};
-ghost use Rattle.command.specs.Command.{wordLength, firstArgument, noArgument, argumentOf, endedBy, readBy, writeBy, lookupBy, deviceBy, aloneBy, commandOf};
+ghost use Rattle.command.specs.Command.{wordLength, afterLetter, noArgument, argumentOf, endedBy, readBy, writeBy, lookupBy, deviceBy, aloneBy, commandOf};
 use crate::numeral::numeral_of;
 
 pub enum Command {
@@ -50,9 +50,9 @@ fn word_length(line: &[u8], at: usize) -> usize
     n
 }
 
-// Before the first argument: after the letter.
-fn first_argument() -> Argument
-    ensures { λ r. ⌜ r ≡ firstArgument ⌝ }
+// What stands before the first argument: the line goes on after its letter.
+fn after_letter() -> Argument
+    ensures { λ r. ⌜ r ≡ afterLetter ⌝ }
 {
     Argument {
         good: true,
@@ -115,7 +115,7 @@ const DECIMAL: u64 = 10;
 fn read_command(line: &[u8]) -> Command
     ensures { λ r. ⌜ r ≡ readBy (now (line .entry)) ⌝ }
 {
-    let device = next_argument(line, first_argument(), HEX);
+    let device = next_argument(line, after_letter(), HEX);
     let offset = next_argument(line, device, HEX);
     let width = next_argument(line, offset, DECIMAL);
     let ended = ends(line, width);
@@ -132,7 +132,7 @@ fn read_command(line: &[u8]) -> Command
 fn write_command(line: &[u8]) -> Command
     ensures { λ r. ⌜ r ≡ writeBy (now (line .entry)) ⌝ }
 {
-    let device = next_argument(line, first_argument(), HEX);
+    let device = next_argument(line, after_letter(), HEX);
     let offset = next_argument(line, device, HEX);
     let width = next_argument(line, offset, DECIMAL);
     let value = next_argument(line, width, HEX);
@@ -151,7 +151,7 @@ fn write_command(line: &[u8]) -> Command
 fn lookup_command(line: &[u8]) -> Command
     ensures { λ r. ⌜ r ≡ lookupBy (now (line .entry)) ⌝ }
 {
-    let address = next_argument(line, first_argument(), HEX);
+    let address = next_argument(line, after_letter(), HEX);
     let width = next_argument(line, address, DECIMAL);
     let ended = ends(line, width);
     if ended {
@@ -166,7 +166,7 @@ fn lookup_command(line: &[u8]) -> Command
 fn enumerate_command(line: &[u8]) -> Command
     ensures { λ r. ⌜ r ≡ deviceBy (now (line .entry)) (λ d. Command.Enumerate d) ⌝ }
 {
-    let device = next_argument(line, first_argument(), HEX);
+    let device = next_argument(line, after_letter(), HEX);
     let ended = ends(line, device);
     if ended {
         return Command::Enumerate(device.value as usize);
@@ -177,7 +177,7 @@ fn enumerate_command(line: &[u8]) -> Command
 fn revision_command(line: &[u8]) -> Command
     ensures { λ r. ⌜ r ≡ deviceBy (now (line .entry)) (λ d. Command.Revision d) ⌝ }
 {
-    let device = next_argument(line, first_argument(), HEX);
+    let device = next_argument(line, after_letter(), HEX);
     let ended = ends(line, device);
     if ended {
         return Command::Revision(device.value as usize);
@@ -189,7 +189,7 @@ fn revision_command(line: &[u8]) -> Command
 fn alone(line: &[u8], command: Command) -> Command
     ensures { λ r. ⌜ r ≡ aloneBy (now (line .entry)) command ⌝ }
 {
-    let ended = ends(line, first_argument());
+    let ended = ends(line, after_letter());
     if ended {
         return command;
     }

@@ -21,10 +21,11 @@ use Rattle.config.specs.Space.{spaceOf}
 use Rattle.config.specs.State.{barAt, slotAt, withBar}
 use Rattle.bar.specs.State.{noState}
 use Rattle.config.specs.Write.{writeOf, writeNumber, relocatedAt}
-use Rattle.config.specs.Reset.{restored, resetDone}
+use Rattle.config.specs.Reset.{resetDone}
 use Rattle.config.specs.declared.state.FunctionState.{FunctionState}
 use Rattle.config.proofs.WriteCases.{storedIn, write-by, state-by}
 use Rattle.config.proofs.Commands.{revision-follows}
+use Rattle.config.proofs.Resets.{reset-state}
 
 pub same-refl : (f : FunctionState) → Same f f
 same-refl f = record { space = refl; power-on = refl; mask = refl; placed = refl; plans = λ i. refl }
@@ -59,10 +60,6 @@ pub relocation-same : (f : FunctionState) (s : Slot) (r : Relocation) → Same f
 relocation-same f s r = with-bar-same f (indexOf s) (relocated (barAt (f .bars) (indexOf s)) r) (by-relocation (barAt (f .bars) (indexOf s)) r)
 
 -- nor a reset, which restores the live image and every BAR
-pub reset-state : (f : FunctionState) → resetDone f .state ≡ restored f
-unfolding resetDone
-reset-state f = refl
-
 reset-bar : (bars : List BarState) (i : ℕ) → barAt (map resetOf bars) i ≡ resetOf (barAt bars i)
 reset-bar bars i = List·getD-map resetOf bars i noState
 

@@ -1,5 +1,5 @@
 -- Demand 3, of every accepted file and every history, and what follows from it.
-use Prim.Native.Nat.{ℕ, _*_, _+_, _<_}
+use Prim.Native.Nat.{ℕ, _<_}
 use mathlib.Core.List.{List, [], _∷_, _++_}
 use mathlib.Core.Path.{_≡_, sym, ap, _∙_}
 use lib.ListN.{getD}
@@ -9,7 +9,7 @@ use Rattle.bar.specs.State.{fresh}
 use Rattle.bar.specs.declared.bar_state.BarState.{BarState}
 use Rattle.config.specs.State.{barAt}
 use Rattle.declaration.specs.declared.answer.Declaration.{Declaration}
-use Rattle.bus.specs.Bus.{functionAt}
+use Rattle.bus.specs.Bus.{functionAt, keyOf}
 use Rattle.bus.specs.Sound.{Sound}
 use Rattle.bus.specs.Start.{declaredFunction, planAt, placementIn}
 use Rattle.bus.specs.declared.state.Bus.{Bus}
@@ -48,7 +48,7 @@ AsPlan d b k = (i : ℕ) → i < barCount → barAt (functionAt b k .bars) i ≡
 plan-quiet : (d : Declaration) (b : Bus) (k : ℕ) → AsPlan d b k → Quiet (functionAt b k)
 plan-quiet d b k e i l z = ap (λ (r : BarState). r .probing) (e i l)
 
-plan-address : (d : Declaration) (b : Bus) (k : ℕ) → AsPlan d b k → (i : ℕ) → i < barCount → addressIn (functionAt b k) i ≡ getD (placementIn d .addresses) (k * barCount + i) 0
+plan-address : (d : Declaration) (b : Bus) (k : ℕ) → AsPlan d b k → (i : ℕ) → i < barCount → addressIn (functionAt b k) i ≡ getD (placementIn d .addresses) (keyOf k i) 0
 plan-address d b k e i l = ap (λ (r : BarState). r .address) (e i l)
 
 -- two such buses give one report

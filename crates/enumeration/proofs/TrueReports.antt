@@ -4,6 +4,7 @@ use mathlib.Core.Bool.{true, false, _||_}
 use mathlib.Core.Logic.{⊎-elim}
 use mathlib.Core.Path.{_≡_, refl, _∙_}
 use native.Mathlib.Omega.{arith}
+use borrow.Author.Tests.{ne-eqb}
 use lib.Dec.{eqb}
 use lib.ListN.{length, getD}
 use Rattle.word.proofs.Tables.{length-table, getD-table, filled-at}
@@ -21,6 +22,9 @@ use Rattle.enumeration.specs.declared.report.SlotReport.{SlotReport}
 pub slot-by : (n a : ℕ) (P : SlotReport → Type 0) → P emptySlot → P (record { size = n; address = a }) → P (slotReport n a)
 slot-by n a P none some =
     ⊎-elim (λ (t : eqb n 0 || eqb n fourGib ≡ true). rw t none) (λ (t : eqb n 0 || eqb n fourGib ≡ false). rw t some) (true-or-false (eqb n 0 || eqb n fourGib))
+
+pub slot-as : (n a : ℕ) → 0 < n → (n ≡ fourGib → ⊥) → slotReport n a ≡ record { size = n; address = a }
+slot-as n a h f = rw (ne-eqb n 0 (λ (e : n ≡ 0). omega arith), ne-eqb n fourGib f)
 
 -- the reported size does not depend on the address, and where it is not 0 the address is the one reported
 pub slot-size : (n a : ℕ) → slotReport n a .size ≡ slotReport n 0 .size

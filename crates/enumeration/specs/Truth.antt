@@ -1,6 +1,6 @@
 -- Demand 3. "On a bus from an accepted file, after any accesses and resets, if no BAR of the declared function is showing its size, the enumeration of document 01 reports the declared identity, pin, slots, sizes, capability ids and offsets, and the addresses that memory lookup uses, and leaves those addresses as they were. So two functions with equal reports agree in all of these. A 4 GiB BAR counts as an empty slot."
 -- proofs/Demand.antt proves `Demand` and what goes with it: `Agreement`, `Absence`, `Restoration`, `Enumerations`, `OnlyAnswer`.
-use Prim.Native.Nat.{ℕ, _+_, _-_, _*_, _<_, _≤_}
+use Prim.Native.Nat.{ℕ, _+_, _-_, _<_, _≤_}
 use mathlib.Core.Bool.{Bool, true, false, _||_, cond}
 use mathlib.Core.List.{List, [], _∷_, _++_}
 use mathlib.Core.Path.{_≡_}
@@ -21,7 +21,7 @@ use Rattle.config.specs.declared.state.FunctionState.{FunctionState}
 use Rattle.declaration.specs.Good.{Bytes}
 use Rattle.declaration.specs.declared.answer.Declaration.{Declaration}
 use Rattle.declaration.specs.declared.answer.DeclarationAnswer.the-variants as answer
-use Rattle.bus.specs.Bus.{functionAt}
+use Rattle.bus.specs.Bus.{functionAt, keyOf}
 use Rattle.bus.specs.Held.{Looked}
 use Rattle.bus.specs.Lookup.{mostLookup, decodes, lookupOf}
 use Rattle.bus.specs.Outcome.{declarationOf}
@@ -83,11 +83,21 @@ Quiet s = (i : ℕ) → i < barCount → 0 < barAt (s .bars) i .plan .size → b
 abbrev pub Used : Bus → Bool → ℕ → ℕ → SlotReport → Type 0
 Used b decoding device i r = (x w : ℕ) → widthOk mostLookup w ≡ true → r .address ≤ x → x + w ≤ r .address + r .size → lookupOf b x w ≡ cond decoding (lookup.Hit device i (x - r .address)) lookup.Miss
 
+-- and no others: an access that is answered with that device and slot lies whole in the slot as it is reported, at the offset from the reported address. A 4 GiB BAR, whose slot is reported as empty, is left out
+pub record LiesIn (r : SlotReport) (x w o : ℕ) : Type 0 where
+  pub from : r .address ≤ x
+  pub to : x + w ≤ r .address + r .size
+  pub offset : o ≡ x - r .address
+
+abbrev pub UsedOnly : Bus → ℕ → ℕ → SlotReport → Type 0
+UsedOnly b device i r = (x w o : ℕ) → lookupOf b x w ≡ lookup.Hit device i o → LiesIn r x w o
+
 -- the truth about the function at index k, in device order, on a bus
 pub record Truth (d : Declaration) (b : Bus) (k : ℕ) : Type 0 where
   pub report : enumerateOf b (declaredFunction d k .device) .report ≡ declaredReport (declaredFunction d k) (functionAt b k)
   pub leaves : enumerateOf b (declaredFunction d k .device) .bus ≡ b
   pub uses : (i : ℕ) → i < barCount → Used b (decodes (functionAt b k)) (declaredFunction d k .device) i (slotIn (enumerateOf b (declaredFunction d k .device) .report) i)
+  pub only : (i : ℕ) → (sizeIn (declaredFunction d k) i ≡ fourGib → ⊥) → UsedOnly b (declaredFunction d k .device) i (slotIn (enumerateOf b (declaredFunction d k .device) .report) i)
 
 -- the demand
 abbrev pub Demand : Type 0
@@ -117,7 +127,7 @@ Absence = (file : List ℕ) → Accepted file → (h : History) (device : ℕ) �
 
 -- after a reset with no later access every BAR is where placement put it, and the report is that of the start
 pub record AsPlaced (file : List ℕ) (h : History) (k : ℕ) : Type 0 where
-  pub address : (i : ℕ) → i < barCount → addressIn (functionAt (ran (started file) (h ++ (resets ∷ []))) k) i ≡ getD (placementIn (declared file) .addresses) (k * barCount + i) 0
+  pub address : (i : ℕ) → i < barCount → addressIn (functionAt (ran (started file) (h ++ (resets ∷ []))) k) i ≡ getD (placementIn (declared file) .addresses) (keyOf k i) 0
   pub report : enumerateOf (ran (started file) (h ++ (resets ∷ []))) (declaredFunction (declared file) k .device) .report ≡ enumerateOf (started file) (declaredFunction (declared file) k .device) .report
 
 abbrev pub Restoration : Type 0

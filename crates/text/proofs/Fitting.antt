@@ -23,6 +23,7 @@ sound-fits d b s =
       start = rw (s .aperture) (omega (arith, filled, most));
       end = rw (s .aperture) (omega (arith, most));
       device = λ k h. omega (arith, s .most k h);
+      slot = λ key. omega arith;
       address = λ key z. omega (arith, s .committed .below key);
       size = λ key. omega (arith, s .committed .below key);
     }

@@ -22,21 +22,37 @@ dot = 46 ∷ []
 abbrev pub ended : List ℕ
 ended = 10 ∷ []
 
+-- "Hex digits are as many as shown": of an end of the aperture, a device, a slot, an address and a size
+abbrev pub endDigits : ℕ
+endDigits = 9
+
+abbrev pub deviceDigits : ℕ
+deviceDigits = 2
+
+abbrev pub slotDigits : ℕ
+slotDigits = 1
+
+abbrev pub addressDigits : ℕ
+addressDigits = 8
+
+abbrev pub sizeDigits : ℕ
+sizeDigits = 9
+
 -- a blank and n hex digits
 unfoldable pub column : ℕ → ℕ → List ℕ
 column n v = blank ++ hexOf n v
 
--- "aperture 080000000 080010000": start and end, nine hex digits each
+-- "aperture 080000000 080010000": start and end
 unfoldable pub apertureLine : Aperture → List ℕ
-apertureLine a = apertureWord ++ column 9 (a .start) ++ column 9 (a .end) ++ ended
+apertureLine a = apertureWord ++ column endDigits (a .start) ++ column endDigits (a .end) ++ ended
 
 -- "device as two hex digits", and the dot that follows it
 unfoldable pub deviceText : ℕ → List ℕ
-deviceText device = hexOf 2 device ++ dot
+deviceText device = hexOf deviceDigits device ++ dot
 
--- "03.0 80001000 000001000": device, slot, address and size in 2, 1, 8 and 9 hex digits
+-- "03.0 80001000 000001000": device, slot, address and size
 unfoldable pub barLine : ℕ → ℕ → ℕ → ℕ → List ℕ
-barLine device slot address size = deviceText device ++ hexOf 1 slot ++ column 8 address ++ column 9 size ++ ended
+barLine device slot address size = deviceText device ++ hexOf slotDigits slot ++ column addressDigits address ++ column sizeDigits size ++ ended
 
 -- a place: an offset of the file, or an index of a device, in decimal
 unfoldable pub placeText : Place → List ℕ
