@@ -16,7 +16,8 @@ def struct(name, *fields):
 Snapshot = struct("vg_snapshot", ("length", c_uint8), ("bytes", c_uint8 * LONGEST_BODY))
 Region = struct("vg_placed_effect", ("id", c_uint16), ("capability", c_uint8), ("offset", c_uint8), ("length", c_uint8),
                 ("access", c_uint8))
-Told = struct("vg_effect_told", ("capability_id", c_uint8), ("region", Region), ("offset", c_uint16))
+Told = struct("vg_effect_told", ("capability_id", c_uint8), ("region", Region), ("offset", c_uint16),
+              ("region_offset", c_uint16))
 ReadAsk = struct("vg_read_ask", ("device", c_size_t), ("offset", c_size_t), ("width", c_size_t))
 ReadResult = struct("vg_read_result", ("kind", c_uint8), ("refusal", c_uint8), ("value", c_uint64), ("effect", Told))
 WriteAsk = struct("vg_write_ask", ("device", c_size_t), ("offset", c_size_t), ("width", c_size_t), ("value", c_uint64))

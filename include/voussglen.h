@@ -153,7 +153,8 @@ typedef struct vg_snapshot {
 typedef struct vg_effect_told {
     uint8_t capability_id;
     vg_placed_effect region;
-    uint16_t offset; /* of the access, from the capability's start */
+    uint16_t offset;        /* of the access, from the capability's start */
+    uint16_t region_offset; /* of the access, from the region's own start; this plus the width is at most `region.length` */
 } vg_effect_told;
 
 /* `width` bytes at `offset` of a device. */
@@ -323,10 +324,11 @@ VG_SIZE(vg_snapshot, 254);
 VG_AT(vg_snapshot, length, 0);
 VG_AT(vg_snapshot, bytes, 1);
 
-VG_SIZE(vg_effect_told, 10);
+VG_SIZE(vg_effect_told, 12);
 VG_AT(vg_effect_told, capability_id, 0);
 VG_AT(vg_effect_told, region, 2);
 VG_AT(vg_effect_told, offset, 8);
+VG_AT(vg_effect_told, region_offset, 10);
 
 VG_SIZE(vg_read_ask, 24);
 VG_AT(vg_read_ask, device, 0);

@@ -75,7 +75,8 @@ static bool same_bus(const vg_bus *a, const vg_bus *b)
 
 static bool same_told(const vg_effect_told *a, const vg_effect_told *b)
 {
-    return a->capability_id == b->capability_id && same_effect(&a->region, &b->region) && a->offset == b->offset;
+    return a->capability_id == b->capability_id && same_effect(&a->region, &b->region) && a->offset == b->offset &&
+           a->region_offset == b->region_offset;
 }
 
 static bool body_kept(void)
@@ -454,38 +455,39 @@ static const uint8_t with_effects[] = {
     2, 13, 0, 1, 0x34, 0x12, 0x78, 0x56, 0xbc, 0x9a, 0xf0, 0xde, 7, 0x0c, 0x03, 0x30,
     3, 2, 0, 2, 9,
     5, 3, 0, 0x80, 0xc3, 0x0f,
-    6, 9, 0, 0x09, 0xa0, 0xa1, 0xa2, 0xa3, 0xff, 0, 0, 0,
+    6, 11, 0, 0x09, 0xa0, 0xa1, 0xa2, 0xa3, 0xa4, 0xff, 0, 0, 0, 0,
     7, 5, 0, 0x01, 0x02, 3, 2, VG_ACCESS_READ,
-    7, 5, 0, 0x03, 0x04, 5, 1, VG_ACCESS_WRITE,
+    7, 5, 0, 0x03, 0x04, 5, 2, VG_ACCESS_WRITE,
     6, 1, 0, 0x05,
 };
 
 static bool effect_is(const vg_effect_told *effect, uint16_t id, uint8_t start, uint8_t length, uint8_t access,
-                      uint16_t offset)
+                      uint16_t offset, uint16_t region_offset)
 {
     const vg_effect_told told = {
         .capability_id = 0x09,
         .region = { .id = id, .capability = 0, .offset = start, .length = length, .access = access },
         .offset = offset,
+        .region_offset = region_offset,
     };
     return same_told(effect, &told);
 }
 
-static bool read_touches(size_t offset, uint16_t from_start, const uint8_t *bytes)
+static bool read_touches(size_t offset, uint16_t from_start, uint16_t from_region, const uint8_t *bytes)
 {
     const vg_bus before = bus;
     vg_read_result r = read_at(1, offset, 1);
     return r.kind == VG_KIND_EFFECT && r.refusal == VG_ACCEPTED && r.value == 0 &&
-           effect_is(&r.effect, 0x0201, 3, 2, VG_ACCESS_READ, from_start) && body_is(bytes, 4) &&
+           effect_is(&r.effect, 0x0201, 3, 2, VG_ACCESS_READ, from_start, from_region) && body_is(bytes, 5) &&
            same_bus(&bus, &before);
 }
 
-static bool write_touches(size_t offset, uint16_t from_start, const uint8_t *bytes)
+static bool write_touches(size_t offset, uint16_t from_start, uint16_t from_region, const uint8_t *bytes)
 {
     const vg_bus before = bus;
     vg_write_result r = write_at(1, offset, 1, 0x77);
     return r.kind == VG_KIND_EFFECT && r.refusal == VG_ACCEPTED && r.device == 0 && r.slot == 0 && r.address == 0 &&
-           effect_is(&r.effect, 0x0403, 5, 1, VG_ACCESS_WRITE, from_start) && body_is(bytes, 4) &&
+           effect_is(&r.effect, 0x0403, 5, 2, VG_ACCESS_WRITE, from_start, from_region) && body_is(bytes, 5) &&
            same_bus(&bus, &before);
 }
 
@@ -502,20 +504,21 @@ static void effects(void)
     CHECK(writes(1, 0x80, 1, 0xff, VG_KIND_STORED, 0, 0));
     CHECK(reads(1, 0x80, 1, 0xcf));
 
-    static const uint8_t declared[] = { 0xa0, 0xa1, 0xa2, 0xa3 };
-    static const uint8_t written[] = { 0x5c, 0xa1, 0xa2, 0xa3 };
-    CHECK(read_touches(0x43, 3, declared));
-    CHECK(read_touches(0x44, 4, declared));
+    static const uint8_t declared[] = { 0xa0, 0xa1, 0xa2, 0xa3, 0xa4 };
+    static const uint8_t written[] = { 0x5c, 0xa1, 0xa2, 0xa3, 0xa4 };
+    CHECK(read_touches(0x43, 3, 0, declared));
+    CHECK(read_touches(0x44, 4, 1, declared));
     CHECK(read_refused(1, 0x42, 2, VG_BAD_TOUCH));
     CHECK(read_refused(1, 0x44, 4, VG_BAD_TOUCH));
     CHECK(read_refused(1, 0x45, 1, VG_BAD_TOUCH)); /* only writes are allowed there */
     CHECK(write_refused(1, 0x43, 1, 0, VG_BAD_TOUCH, 0)); /* only reads */
     CHECK(write_refused(1, 0x40, 4, 0, VG_BAD_TOUCH, 0));
-    CHECK(write_touches(0x45, 5, declared));
+    CHECK(write_touches(0x45, 5, 0, declared));
+    CHECK(write_touches(0x46, 6, 1, declared));
     CHECK(reads(1, 0x42, 1, 0xa0));
     CHECK(writes(1, 0x42, 1, 0x5c, VG_KIND_STORED, 0, 0));
     CHECK(reads(1, 0x42, 1, 0x5c));
-    CHECK(read_touches(0x43, 3, written)); /* the live body */
+    CHECK(read_touches(0x43, 3, 0, written)); /* the live body */
     CHECK(bus.functions[0].revision == 0);
 
     const vg_bus before = bus;
@@ -526,7 +529,7 @@ static void effects(void)
     CHECK(same_bus(&bus, &before));
 
     CHECK(resets(VG_ACCEPTED, 0));
-    CHECK(read_touches(0x43, 3, declared));
+    CHECK(read_touches(0x43, 3, 0, declared));
     CHECK(bus.functions[0].revision == 1);
 }
 
@@ -595,8 +598,8 @@ static void refusals(const uint8_t *file, size_t length)
     CHECK(refused_on(bad, sizeof with_effects, VG_BAD_CONFIG_BYTE, 1, 0));
 
     memcpy(bad, with_effects, sizeof with_effects);
-    bad[69] = 0x01; /* the second effect has the first one's id */
-    bad[70] = 0x02;
+    bad[71] = 0x01; /* the second effect has the first one's id */
+    bad[72] = 0x02;
     CHECK(refused_on(bad, sizeof with_effects, VG_REPEATED_EFFECT, 1, 0));
 
     CHECK(accepted(file, 19)); /* "An aperture alone is a valid file." */

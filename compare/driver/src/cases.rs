@@ -68,7 +68,7 @@ fn at(offset: u16, width: u8) -> Question {
 }
 
 fn inside() -> Touch {
-    Touch::Inside(Touched { capability: 9, effect: 1, region: (3, 2), offset: 3, body: vec![0; 6] })
+    Touch::Inside(Touched { capability: 9, effect: 1, region: (3, 2), offset: 3, region_offset: 0, body: vec![0; 6] })
 }
 
 fn no_room() -> Question {

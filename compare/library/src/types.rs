@@ -119,6 +119,7 @@ pub struct Touched {
     pub capability_id: u8,
     pub region: PlacedEffect,
     pub offset: u16,
+    pub region_offset: u16,
 }
 
 #[repr(C)]
@@ -191,6 +192,7 @@ pub struct ReadOut {
     pub capability_id: u8,
     pub region: PlacedEffect,
     pub offset: u16,
+    pub region_offset: u16,
     pub body: Snapshot,
 }
 
@@ -205,6 +207,7 @@ pub struct WriteOut {
     pub capability_id: u8,
     pub region: PlacedEffect,
     pub offset: u16,
+    pub region_offset: u16,
     pub body: Snapshot,
     pub state: FunctionState,
 }
@@ -243,12 +246,12 @@ const _: () = assert!(size_of::<BarState>() == 40);
 const _: () = assert!(size_of::<Placed>() == 304);
 const _: () = assert!(size_of::<Snapshot>() == 254);
 const _: () = assert!(size_of::<ViewCopy>() == 255);
-const _: () = assert!(size_of::<Touched>() == 12);
+const _: () = assert!(size_of::<Touched>() == 14);
 const _: () = assert!(size_of::<DeclaredNumbers>() == 240);
 const _: () = assert!(size_of::<ContentsNumbers>() == 536);
 const _: () = assert!(size_of::<BytesOut>() == 16);
 const _: () = assert!(size_of::<FunctionState>() == 1320);
-const _: () = assert!(size_of::<ReadOut>() == 280);
-const _: () = assert!(size_of::<WriteOut>() == 1608);
+const _: () = assert!(size_of::<ReadOut>() == 288);
+const _: () = assert!(size_of::<WriteOut>() == 1616);
 const _: () = assert!(size_of::<PlaceNumbers>() == 848);
 const _: () = assert!(size_of::<PlacedOut>() == 392);

@@ -83,7 +83,8 @@ pub fn owners(placed: &[Placed]) -> Owners {
 
 /// 19: touches an effect but isn't inside it, or its direction isn't allowed.
 pub fn touch(placed: &[Placed], owners: &Owners, live: &[u8; 256], offset: u16, width: u8, write: bool) -> Touch {
-    let owners = &owners[offset.into()..][..width.into()];
+    let (before, owners) = owners.split_at(offset.into());
+    let owners = &owners[..width.into()];
     if owners.iter().all(Option::is_none) {
         return Touch::Untouched;
     }
@@ -98,6 +99,7 @@ pub fn touch(placed: &[Placed], owners: &Owners, live: &[u8; 256], offset: u16, 
         effect: effect.id,
         region: (effect.offset, effect.length),
         offset: (usize::from(offset) - start) as u8,
+        region_offset: before.iter().rev().take_while(|owner| **owner == owners[0]).count() as u8,
         body: body_in(live, capability, *start),
     })
 }

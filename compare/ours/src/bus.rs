@@ -119,6 +119,7 @@ fn inside(effect: Effect) -> Option<Answer> {
         effect: effect.region.id,
         region: (effect.region.offset, effect.region.length),
         offset: u8::try_from(effect.offset).ok()?,
+        region_offset: u8::try_from(effect.region_offset).ok()?,
         body: effect.body,
     }))
 }

@@ -75,19 +75,26 @@ pub fn touch(placed: Placed, image: &[u8], offset: u16, width: u8, write: bool) 
         (0, false) => Some(Touch::Untouched),
         (0, true) => {
             let body = library::snapshot(placed, image, out.region.capability.into())?;
-            Some(Touch::Inside(touched(out.capability_id, out.region, out.offset, &body)?))
+            Some(Touch::Inside(touched(out.capability_id, out.region, out.offset, out.region_offset, &body)?))
         }
         (19, _) => Some(Touch::Refused),
         _ => None,
     }
 }
 
-pub fn touched(capability: u8, region: PlacedEffect, offset: u16, body: &Snapshot) -> Option<Touched> {
+pub fn touched(
+    capability: u8,
+    region: PlacedEffect,
+    offset: u16,
+    region_offset: u16,
+    body: &Snapshot,
+) -> Option<Touched> {
     Some(Touched {
         capability,
         effect: region.id,
         region: (region.offset, region.length),
         offset: u8::try_from(offset).ok()?,
+        region_offset: u8::try_from(region_offset).ok()?,
         body: bytes(body)?,
     })
 }

@@ -103,7 +103,7 @@ fn read(state: FunctionState, offset: u16, width: u8) -> Option<Answer> {
     let out = library::read(state, offset.into(), width.into())?;
     Some(match (out.refusal, out.inside) {
         (0, false) => Answer::Value(dword(out.value)?),
-        (0, true) => Answer::Inside(touched(out.capability_id, out.region, out.offset, &out.body)?),
+        (0, true) => Answer::Inside(touched(out.capability_id, out.region, out.offset, out.region_offset, &out.body)?),
         (number, _) => Answer::Refused(number),
     })
 }
@@ -124,7 +124,7 @@ fn write(state: &mut FunctionState, offset: u16, width: u8, value: u64, accept: 
             let candidate = dword(out.address)?;
             if accept { Answer::Moved { slot, address: candidate } } else { Answer::Kept { slot, candidate } }
         }
-        3 => Answer::Inside(touched(out.capability_id, out.region, out.offset, &out.body)?),
+        3 => Answer::Inside(touched(out.capability_id, out.region, out.offset, out.region_offset, &out.body)?),
         _ => return None,
     })
 }

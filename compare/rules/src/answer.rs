@@ -17,6 +17,8 @@ pub struct Touched {
     pub region: (u8, u8),
     /// From the capability's start.
     pub offset: u8,
+    /// From the region's own start.
+    pub region_offset: u8,
     pub body: Vec<u8>,
 }
 

@@ -40,7 +40,7 @@ module _ (P : BusWriteDone → Type 0) (b : Bus) (o w v : ℕ) (s : Shown P b o 
     stepped body (writeAnswer.Candidate i a) e =
         let l = candidate-slot (functionAt b k) o w v i a e in
         ⊎-elim (λ (t : accepts b k i a ≡ true). rw t (s .moved k i a h l t)) (λ (t : accepts b k i a ≡ false). rw t (s .kept k i a h l t)) (true-or-false (accepts b k i a))
-    stepped body (writeAnswer.Effect id region offset) e = s .still (Effect id region offset) body refl
+    stepped body (writeAnswer.Effect id region offset regionOffset) e = s .still (Effect id region offset regionOffset) body refl
     stepped body writeAnswer.BadAccess e = s .still BadAccess body refl
     stepped body writeAnswer.BadEffect e = s .still BadEffect body refl
     stepped body writeAnswer.Exhausted e = s .still (Exhausted (deviceAt b k)) body refl

@@ -15,6 +15,7 @@ pub mod SoundRanges
 pub mod SoundSteps
 pub mod SoundBuses
 pub mod AccessCases
+pub mod EffectAnswers
 pub mod Refused
 pub mod RestoredBars
 pub mod AcceptExact

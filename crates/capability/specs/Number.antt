@@ -45,5 +45,5 @@ layoutAnswerNumber (layoutAnswer.PastEnd k) = pastSpace
 -- an access
 abbrev pub touchNumber : Touch → ℕ
 touchNumber touch.Untouched = accepted
-touchNumber (touch.Effect id region offset) = accepted
+touchNumber (touch.Effect id region offset regionOffset) = accepted
 touchNumber touch.Refused = badTouch

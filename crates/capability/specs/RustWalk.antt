@@ -27,7 +27,7 @@ orNext none g = g
 orNext (one k) g = one k
 orNext bad g = bad
 
--- the answer of `config_effect`
+-- the answer of `config_effect`, and R-9's offset, which the Rust has not
 abbrev pub told : Placed → ℕ → Found → Touch
 told p o none = touch.Untouched
 told p o (one i) = effectAnswer p o i

@@ -4,7 +4,7 @@ use mathlib.Core.Bool.{Bool, true, false, _&&_, _||_, cond}
 use lib.Dec.{eqb}
 use Rattle.word.specs.Search.{allBelow}
 use Rattle.capability.specs.Effect.{accessRead, accessWrite, accessBoth}
-use Rattle.capability.specs.Owner.{capabilityAt, effectAt, startOf, ownerOf, holds}
+use Rattle.capability.specs.Owner.{capabilityAt, effectAt, startOf, regionFrom, ownerOf, holds}
 use Rattle.capability.specs.declared.placed.Placed.{Placed}
 use Rattle.capability.specs.declared.owner.Owner.{Owner}
 use Rattle.capability.specs.declared.owner.Owner.the-variants as owner
@@ -24,9 +24,10 @@ abbrev pub isEffect : ℕ → Owner → Bool
 isEffect i owner.Nobody = false
 isEffect i (owner.Effect k) = eqb k i
 
--- the answer of the effect at index i: its capability's id, its region, and the access's offset from the capability's start
+-- the answer of the effect at index i: its capability's id, its region, the access's offset from the capability's start, and (document 02, R-9) "the offset from the region's own start"
 abbrev pub effectAnswer : Placed → ℕ → ℕ → Touch
-effectAnswer p o i = touch.Effect (capabilityAt p (effectAt p i .capability) .id) (effectAt p i) (o - startOf p (effectAt p i .capability))
+effectAnswer p o i =
+    touch.Effect (capabilityAt p (effectAt p i .capability) .id) (effectAt p i) (o - startOf p (effectAt p i .capability)) (o - regionFrom p i)
 
 -- an access whose first byte has this owner: answered if that effect owns every byte and allows the direction
 abbrev pub byOwner : Placed → ℕ → ℕ → Bool → Owner → Touch

@@ -9,18 +9,20 @@ use crate::owner::Owner;
 use crate::owner::effect_at;
 use crate::owner::effect_holds;
 use crate::owner::first_touched;
+use crate::owner::region_start;
 use crate::owner::span_at;
 use crate::placed::Placed;
 use crate::placed::PlacedEffect;
 use address::ConfigOffset;
 
-// What an access does to the effects: the capability's id, the region, and the access's offset from the capability's start.
+// What an access does to the effects: the capability's id, the region, and the access's offset from the capability's start and from the region's own.
 pub enum Touch {
     Untouched,
     Effect {
         capability_id: u8,
         region: PlacedEffect,
         offset: u16,
+        region_offset: u16,
     },
     Refused,
 }
@@ -36,6 +38,7 @@ impl Touch {
                 capability_id: _,
                 region: _,
                 offset: _,
+                region_offset: _,
             } => refusal::ACCEPTED,
             Touch::Refused => refusal::BAD_TOUCH,
         }
@@ -70,6 +73,7 @@ fn decided(placed: Placed, offset: u16, width: usize, write: bool, i: usize) -> 
                 capability_id: capability.id,
                 region,
                 offset: word::past(offset as usize, capability.start as usize) as u16,
+                region_offset: word::past(offset as usize, region_start(placed, region)) as u16,
             };
         }
     }

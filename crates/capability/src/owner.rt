@@ -74,7 +74,7 @@ pub(crate) fn effect_at(placed: Placed, i: usize) -> PlacedEffect
 }
 
 // Where the region of an effect starts in config space.
-fn region_start(placed: Placed, effect: PlacedEffect) -> usize
+pub(crate) fn region_start(placed: Placed, effect: PlacedEffect) -> usize
     ensures { λ r. ⌜ r ≡ regionStart placed effect ⌝ }
 {
     let s = span_at(placed, effect.capability as usize);

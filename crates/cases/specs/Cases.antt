@@ -60,7 +60,7 @@ layoutReply (layoutAnswer.PastEnd k) = refusal-at (layoutAnswerNumber (layoutAns
 
 abbrev pub touchReply : Touch → Reply
 touchReply touch.Untouched = touches touch.Untouched
-touchReply (touch.Effect id region offset) = touches (touch.Effect id region offset)
+touchReply (touch.Effect id region offset regionOffset) = touches (touch.Effect id region offset regionOffset)
 touchReply touch.Refused = refusal-is (touchNumber touch.Refused)
 
 abbrev pub answer : Question → Reply
@@ -109,7 +109,7 @@ cases =
     (bodies (191 ∷ []) gives refusal-at 13 0) ∷
     (body 254 gives refusal-is 10) ∷
     -- P8 Effect offset 3, length 2 at 0x40: byte 0x43 matches; word 0x42 and dword 0x44 give 19.
-    (effect-at 0x43 1 gives touches (touch.Effect 9 p8Effect 3)) ∷
+    (effect-at 0x43 1 gives touches (touch.Effect 9 p8Effect 3 0)) ∷
     (effect-at 0x42 2 gives refusal-is 19) ∷
     (effect-at 0x44 4 gives refusal-is 19) ∷
     -- P9 Aperture 0x80000010 to 0x80001010, automatic 0x1000: 17.

@@ -77,7 +77,7 @@ reset-same f = rw (reset-state f) (record { space = refl; power-on = refl; mask 
 pub refused-changes-nothing : (f : FunctionState) (o w v : ℕ) → (writeNumber (writeOf f o w v .reply .answer) ≡ accepted) ⊎ (writeOf f o w v .state ≡ f)
 refused-changes-nothing f o w v =
     write-by (λ d. (writeNumber (d .reply .answer) ≡ accepted) ⊎ (d .state ≡ f)) f o w v
-    (record { bad-access = λ e. inr refl; probing = λ a i. inl refl; candidate = λ a i x e. inl refl; effect = λ a i id region offset e. inl refl; bad-effect = λ a i e. inr refl; exhausts = λ a i e. inr refl; stores = λ a i u e. inl refl })
+    (record { bad-access = λ e. inr refl; probing = λ a i. inl refl; candidate = λ a i x e. inl refl; effect = λ a i id region offset regionOffset e. inl refl; bad-effect = λ a i e. inr refl; exhausts = λ a i e. inr refl; stores = λ a i u e. inl refl })
 
 -- of the BARs only the one written to can change
 pub other-bars : (f : FunctionState) (o w v j : ℕ) → (j ≡ slotAt o → ⊥) → barAt (writeOf f o w v .state .bars) j ≡ barAt (f .bars) j

@@ -20,6 +20,7 @@ pub mod Resets
 pub mod Reading
 pub mod Writing
 pub mod WriteCases
+pub mod EffectAnswers
 pub mod Kept
 pub mod PlainAccesses
 pub mod Registers

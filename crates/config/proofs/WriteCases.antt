@@ -37,7 +37,7 @@ pub record Shown (P : WriteDone → Type 0) (f : FunctionState) (o w v : ℕ) : 
   pub bad-access : accessOf (spaceOf f) o w ≡ access.Refused → P (writeDone BadAccess noBody f)
   pub probing : Aligned (spaceOf f) o w → inBar (f .bars) o ≡ true → P (writeDone (Probing (slotAt o)) noBody (withBar f (slotAt o) (probed (barAt (f .bars) (slotAt o)))))
   pub candidate : Aligned (spaceOf f) o w → inBar (f .bars) o ≡ true → (a : ℕ) → asks (barAt (f .bars) (slotAt o)) (o % barRegisterSize) w v ≡ barWrite.Relocate a → P (writeDone (Candidate (slotAt o) a) noBody f)
-  pub effect : Aligned (spaceOf f) o w → inBar (f .bars) o ≡ false → (id : ℕ) (region : PlacedEffect) (offset : ℕ) → touchOf (f .placed) o w true ≡ touch.Effect id region offset → P (writeDone (Effect id region offset) (snapshotOf (f .placed) (f .live) (region .capability)) f)
+  pub effect : Aligned (spaceOf f) o w → inBar (f .bars) o ≡ false → (id : ℕ) (region : PlacedEffect) (offset regionOffset : ℕ) → touchOf (f .placed) o w true ≡ touch.Effect id region offset regionOffset → P (writeDone (Effect id region offset regionOffset) (snapshotOf (f .placed) (f .live) (region .capability)) f)
   pub bad-effect : Aligned (spaceOf f) o w → inBar (f .bars) o ≡ false → touchOf (f .placed) o w true ≡ touch.Refused → P (writeDone BadEffect noBody f)
   pub exhausts : Aligned (spaceOf f) o w → inBar (f .bars) o ≡ false → exhausted (f .live) (storedIn f o w v) (f .revision) ≡ true → P (writeDone Exhausted noBody f)
   pub stores : Aligned (spaceOf f) o w → inBar (f .bars) o ≡ false → touchOf (f .placed) o w true ≡ touch.Untouched → exhausted (f .live) (storedIn f o w v) (f .revision) ≡ false → P (writeDone Stored noBody (withLive f (storedIn f o w v) (revisionAfter (f .live) (storedIn f o w v) (f .revision))))
@@ -59,7 +59,7 @@ module _ (P : WriteDone → Type 0) (f : FunctionState) (o w v : ℕ) (s : Shown
 
   touched : Aligned (spaceOf f) o w → inBar (f .bars) o ≡ false → (t : Touch) → touchOf (f .placed) o w true ≡ t → P (writeTouched f o w v t)
   touched a i touch.Untouched e = at-store a i e
-  touched a i (touch.Effect id region offset) e = s .effect a i id region offset e
+  touched a i (touch.Effect id region offset regionOffset) e = s .effect a i id region offset regionOffset e
   touched a i touch.Refused e = s .bad-effect a i e
 
   at-good : Aligned (spaceOf f) o w → P (writeGood f o w v)
@@ -81,4 +81,4 @@ module _ (P : WriteDone → Type 0) (f : FunctionState) (o w v : ℕ) (s : Shown
 pub state-by : (P : FunctionState → Type 0) (f : FunctionState) (o w v : ℕ) → P f → P (withBar f (slotAt o) (probed (barAt (f .bars) (slotAt o)))) → P (withLive f (storedIn f o w v) (revisionAfter (f .live) (storedIn f o w v) (f .revision))) → P (writeOf f o w v .state)
 state-by P f o w v same probe store =
     write-by (λ d. P (d .state)) f o w v
-    (record { bad-access = λ e. same; probing = λ a i. probe; candidate = λ a i x e. same; effect = λ a i id region offset e. same; bad-effect = λ a i e. same; exhausts = λ a i e. same; stores = λ a i u e. store })
+    (record { bad-access = λ e. same; probing = λ a i. probe; candidate = λ a i x e. same; effect = λ a i id region offset regionOffset e. same; bad-effect = λ a i e. same; exhausts = λ a i e. same; stores = λ a i u e. store })

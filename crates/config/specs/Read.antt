@@ -23,7 +23,7 @@ use Rattle.config.specs.declared.read_step.ReadReply.{ReadReply}
 -- document 01's number for each answer
 abbrev pub readNumber : ReadAnswer → ℕ
 readNumber (Value v) = accepted
-readNumber (Effect id region offset) = accepted
+readNumber (Effect id region offset regionOffset) = accepted
 readNumber BadAccess = badAccess
 readNumber BadEffect = badTouch
 
@@ -37,7 +37,7 @@ registerBytes f o w = readAt (bytesOf barRegisterSize (shown (barAt (f .bars) (s
 -- "Elsewhere, an access that touches an effect follows 19, or is answered ..; nothing changes. Any other read gives the live bytes"
 abbrev pub readTouched : FunctionState → ℕ → ℕ → Touch → ReadReply
 readTouched f o w touch.Untouched = readReply (Value (readAt (f .live) o w)) noBody
-readTouched f o w (touch.Effect id region offset) = readReply (Effect id region offset) (snapshotOf (f .placed) (f .live) (region .capability))
+readTouched f o w (touch.Effect id region offset regionOffset) = readReply (Effect id region offset regionOffset) (snapshotOf (f .placed) (f .live) (region .capability))
 readTouched f o w touch.Refused = readReply BadEffect noBody
 
 -- a checked read

@@ -31,7 +31,7 @@ abbrev pub writeNumber : WriteAnswer → ℕ
 writeNumber Stored = refusal.accepted
 writeNumber (Probing slot) = refusal.accepted
 writeNumber (Candidate slot address) = refusal.accepted
-writeNumber (Effect id region offset) = refusal.accepted
+writeNumber (Effect id region offset regionOffset) = refusal.accepted
 writeNumber BadAccess = refusal.badAccess
 writeNumber BadEffect = refusal.badTouch
 writeNumber Exhausted = refusal.exhausted
@@ -57,7 +57,7 @@ barStep f o w v = barAsked f (slotAt o) (asks (barAt (f .bars) (slotAt o)) (o % 
 
 abbrev pub writeTouched : FunctionState → ℕ → ℕ → ℕ → Touch → WriteDone
 writeTouched f o w v touch.Untouched = storeOf f o w v
-writeTouched f o w v (touch.Effect id region offset) = writeDone (Effect id region offset) (snapshotOf (f .placed) (f .live) (region .capability)) f
+writeTouched f o w v (touch.Effect id region offset regionOffset) = writeDone (Effect id region offset regionOffset) (snapshotOf (f .placed) (f .live) (region .capability)) f
 writeTouched f o w v touch.Refused = writeDone BadEffect noBody f
 
 -- a checked write

@@ -17,13 +17,14 @@ use capability::Touch;
 use capability::effect_for_access;
 use capability::snapshot_of;
 
-// What a read gives: a value, or an effect with its capability's id, its region and the offset from the capability's start; or refusal 18 or 19.
+// What a read gives: a value, or an effect with its capability's id, its region and the offset from the capability's start and from the region's own; or refusal 18 or 19.
 pub enum ReadAnswer {
     Value(u64),
     Effect {
         capability_id: u8,
         region: PlacedEffect,
         offset: u16,
+        region_offset: u16,
     },
     BadAccess,
     BadEffect,
@@ -40,6 +41,7 @@ impl ReadAnswer {
                 capability_id: _,
                 region: _,
                 offset: _,
+                region_offset: _,
             } => refusal::ACCEPTED,
             ReadAnswer::BadAccess => refusal::BAD_ACCESS,
             ReadAnswer::BadEffect => refusal::BAD_TOUCH,
@@ -79,6 +81,7 @@ fn read_touched(state: FunctionState, offset: usize, width: usize, touch: Touch)
             capability_id,
             region,
             offset,
+            region_offset,
         } => {
             let placed = state.placed;
             let body = snapshot_of(placed, &live, region.capability as usize);
@@ -87,6 +90,7 @@ fn read_touched(state: FunctionState, offset: usize, width: usize, touch: Touch)
                     capability_id,
                     region,
                     offset,
+                    region_offset,
                 },
                 body,
             }

@@ -35,6 +35,7 @@ pub enum WriteAnswer {
         capability_id: u8,
         region: PlacedEffect,
         offset: u16,
+        region_offset: u16,
     },
     BadAccess,
     BadEffect,
@@ -57,6 +58,7 @@ impl WriteAnswer {
                 capability_id: _,
                 region: _,
                 offset: _,
+                region_offset: _,
             } => refusal::ACCEPTED,
             WriteAnswer::BadAccess => refusal::BAD_ACCESS,
             WriteAnswer::BadEffect => refusal::BAD_TOUCH,
@@ -137,6 +139,7 @@ fn write_touched(
             capability_id,
             region,
             offset,
+            region_offset,
         } => {
             let live = state.live;
             let placed = state.placed;
@@ -146,6 +149,7 @@ fn write_touched(
                     capability_id,
                     region,
                     offset,
+                    region_offset,
                 },
                 body,
             };

@@ -74,7 +74,7 @@ accessRoom = effectRoom
 
 abbrev pub readAnswerText : ℕ → Snapshot → ReadAnswer → List ℕ
 readAnswerText width body (readAnswer.Value v) = valueText width v
-readAnswerText width body (readAnswer.Effect id region offset) = effectText id region offset body
+readAnswerText width body (readAnswer.Effect id region offset regionOffset) = effectText id region offset regionOffset body
 readAnswerText width body readAnswer.BadAccess = refusedText refusal.badAccess
 readAnswerText width body readAnswer.BadEffect = refusedText refusal.badTouch
 
@@ -102,7 +102,7 @@ writeAnswerText body writeAnswer.Dropped = droppedLine
 writeAnswerText body (writeAnswer.Probing slot) = probingText slot
 writeAnswerText body (writeAnswer.Moved slot address) = placedText movedWord slot address
 writeAnswerText body (writeAnswer.Kept slot address) = placedText keptWord slot address
-writeAnswerText body (writeAnswer.Effect id region offset) = effectText id region offset body
+writeAnswerText body (writeAnswer.Effect id region offset regionOffset) = effectText id region offset regionOffset body
 writeAnswerText body writeAnswer.BadAccess = refusedText refusal.badAccess
 writeAnswerText body writeAnswer.BadEffect = refusedText refusal.badTouch
 writeAnswerText body (writeAnswer.Exhausted device) = exhaustedText device

@@ -23,7 +23,7 @@ functionZero = 46 ∷ 48 ∷ []
 -- "shows what reads of one byte show; a byte that a read does not give (an effect's) is shown as the live image has it"
 abbrev pub shownOr : ReadAnswer → ℕ → ℕ
 shownOr (readAnswer.Value v) live = v
-shownOr (readAnswer.Effect id region offset) live = live
+shownOr (readAnswer.Effect id region offset regionOffset) live = live
 shownOr readAnswer.BadAccess live = live
 shownOr readAnswer.BadEffect live = live
 

@@ -1,4 +1,4 @@
--- An effect as text: "effect CC IIII OO LL A RR BODY".
+-- An effect as text: "effect CC IIII OO LL A RR BODY", and with R-9 one more field at the end.
 use Prim.Native.Nat.{ℕ, _+_, _*_, min}
 use mathlib.Core.Bool.{cond}
 use mathlib.Core.List.{List, [], _∷_, _++_}
@@ -29,6 +29,10 @@ bodyBytes body = partsBelow (byteText (body .bytes)) (min (body .length) bodyMos
 unfoldable pub bodyText : Snapshot → List ℕ
 bodyText body = cond (eqb (body .length) 0) dash (bodyBytes body)
 
+-- a blank before it
+unfoldable pub bodyColumn : Snapshot → List ℕ
+bodyColumn body = blank ++ bodyText body
+
 -- the room that a text takes at most
 abbrev pub bodyRoom : ℕ
 bodyRoom = bodyMost * 2
@@ -40,9 +44,10 @@ regionText e = column 4 (e .id) ++ column 2 (e .offset) ++ column 2 (e .length) 
 abbrev pub regionRoom : ℕ
 regionRoom = 13
 
--- "capability id, .., the access's offset from the capability's start"
-unfoldable pub effectText : ℕ → PlacedEffect → ℕ → Snapshot → List ℕ
-effectText id region offset body = effectWord ++ column 2 id ++ regionText region ++ column 2 offset ++ blank ++ bodyText body ++ ended
+-- "capability id, .., the access's offset from the capability's start", the body, and "at the end: the offset from the region's start, two digits"
+unfoldable pub effectText : ℕ → PlacedEffect → ℕ → ℕ → Snapshot → List ℕ
+effectText id region offset regionOffset body =
+    effectWord ++ column 2 id ++ regionText region ++ column 2 offset ++ bodyColumn body ++ column 2 regionOffset ++ ended
 
 abbrev pub effectRoom : ℕ
-effectRoom = 6 + 3 + regionRoom + 3 + 1 + bodyRoom + 1
+effectRoom = 6 + 3 + regionRoom + 3 + 1 + bodyRoom + 3 + 1

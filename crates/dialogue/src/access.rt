@@ -62,9 +62,10 @@ pub(crate) fn put_read(text: &mut [u8], at: usize, width: usize, reply: ReadRepl
             capability_id,
             region,
             offset,
+            region_offset,
         } => {
             let body = reply.body;
-            put_effect(text, at, capability_id, region, offset, body)
+            put_effect(text, at, capability_id, region, offset, region_offset, body)
         }
         ReadAnswer::BadAccess => put_refused(text, at, refusal::BAD_ACCESS),
         ReadAnswer::BadEffect => put_refused(text, at, refusal::BAD_TOUCH),
@@ -106,9 +107,10 @@ pub(crate) fn put_write(text: &mut [u8], at: usize, reply: BusWriteReply) -> usi
             capability_id,
             region,
             offset,
+            region_offset,
         } => {
             let body = reply.body;
-            put_effect(text, at, capability_id, region, offset, body)
+            put_effect(text, at, capability_id, region, offset, region_offset, body)
         }
         BusWriteAnswer::BadAccess => put_refused(text, at, refusal::BAD_ACCESS),
         BusWriteAnswer::BadEffect => put_refused(text, at, refusal::BAD_TOUCH),

@@ -29,6 +29,7 @@ fn shown_or(answer: ReadAnswer, live: u8) -> u64
             capability_id: _,
             region: _,
             offset: _,
+            region_offset: _,
         } => wide(live),
         ReadAnswer::BadAccess => wide(live),
         ReadAnswer::BadEffect => wide(live),

@@ -3,7 +3,7 @@ ghost use mathlib.Core.Path.{_≡_};
 ghost use mathlib.Core.List.{_++_};
 ghost use Prim.Native.Nat.{_+_, _≤_};
 ghost use lib.ListN.{length, take};
-ghost use Rattle.dialogue.specs.Effect.{bodyBytes, bodyText, bodyRoom, regionText, regionRoom, effectText, effectRoom};
+ghost use Rattle.dialogue.specs.Effect.{bodyBytes, bodyText, bodyColumn, bodyRoom, regionText, regionRoom, effectText, effectRoom};
 use crate::part::put_bytes;
 use crate::part::put_column;
 use crate::part::put_hex;
@@ -40,6 +40,15 @@ fn put_body(text: &mut [u8], at: usize, body: Snapshot) -> usize
     put_body_bytes(text, at, body)
 }
 
+// A blank, then a body.
+fn put_body_column(text: &mut [u8], at: usize, body: Snapshot) -> usize
+    requires { ⌜ at + (1 + bodyRoom) ≤ length (now text) ⌝ }
+    ensures { λ r. ⌜ (r ≤ at + (1 + bodyRoom)) × (take r (now (text .exit)) ≡ take at (now (text .entry)) ++ bodyColumn body) ⌝ }
+{
+    let blank = put_bytes(text, at, b" ");
+    put_body(text, blank, body)
+}
+
 // Id, offset, length and access of a region.
 fn put_region(text: &mut [u8], at: usize, region: PlacedEffect) -> usize
     requires { ⌜ at + regionRoom ≤ length (now text) ⌝ }
@@ -57,16 +66,17 @@ pub(crate) fn put_effect(
     capability_id: u8,
     region: PlacedEffect,
     offset: u16,
+    region_offset: u16,
     body: Snapshot,
 ) -> usize
     requires { ⌜ at + effectRoom ≤ length (now text) ⌝ }
-    ensures { λ r. ⌜ (r ≤ at + effectRoom) × (take r (now (text .exit)) ≡ take at (now (text .entry)) ++ effectText «capability_id» region offset body) ⌝ }
+    ensures { λ r. ⌜ (r ≤ at + effectRoom) × (take r (now (text .exit)) ≡ take at (now (text .entry)) ++ effectText «capability_id» region offset «region_offset» body) ⌝ }
 {
     let word = put_bytes(text, at, b"effect");
     let id = put_column(text, word, 2, wide(capability_id));
     let region = put_region(text, id, region);
     let offset = put_column(text, region, 2, wide_word(offset));
-    let blank = put_bytes(text, offset, b" ");
-    let body = put_body(text, blank, body);
-    put_bytes(text, body, b"\n")
+    let body = put_body_column(text, offset, body);
+    let inside = put_column(text, body, 2, wide_word(region_offset));
+    put_bytes(text, inside, b"\n")
 }

@@ -24,13 +24,13 @@ use Rattle.enumeration.specs.declared.whole.Enumerated.{Enumerated}
 -- the number that a read gives, 0 where it gives none, and whether it gives one
 abbrev pub numberOf : ReadAnswer → ℕ
 numberOf (readAnswer.Value v) = v
-numberOf (readAnswer.Effect id region offset) = 0
+numberOf (readAnswer.Effect id region offset regionOffset) = 0
 numberOf readAnswer.BadAccess = 0
 numberOf readAnswer.BadEffect = 0
 
 abbrev pub given : ReadAnswer → Bool
 given (readAnswer.Value v) = true
-given (readAnswer.Effect id region offset) = false
+given (readAnswer.Effect id region offset regionOffset) = false
 given readAnswer.BadAccess = false
 given readAnswer.BadEffect = false
 

@@ -20,13 +20,13 @@ use Rattle.harness.specs.declared.effects.Touched.{Touched}
 
 -- inside no effect: all but the refusal is blank
 abbrev pub touchedNone : ℕ → Touched
-touchedNone n = record { refusal = n; inside = false; «capability_id» = 0; region = noPlacedEffect; offset = 0 }
+touchedNone n = record { refusal = n; inside = false; «capability_id» = 0; region = noPlacedEffect; offset = 0; «region_offset» = 0 }
 
--- untouched and refused differ by the number alone; an effect is told with "capability id, region, offset from the capability's start"
+-- untouched and refused differ by the number alone; an effect is told with "capability id, region, offset from the capability's start" and from the region's own
 abbrev pub touchNumbers : Touch → Touched
 touchNumbers touch.Untouched = touchedNone (touchNumber touch.Untouched)
-touchNumbers (touch.Effect id region offset) =
-    record { refusal = touchNumber (touch.Effect id region offset); inside = true; «capability_id» = id; region = region; offset = offset }
+touchNumbers (touch.Effect id region offset regionOffset) =
+    record { refusal = touchNumber (touch.Effect id region offset regionOffset); inside = true; «capability_id» = id; region = region; offset = offset; «region_offset» = regionOffset }
 touchNumbers touch.Refused = touchedNone (touchNumber touch.Refused)
 
 -- "Check 18 first."

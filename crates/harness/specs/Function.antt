@@ -25,13 +25,13 @@ use Rattle.harness.specs.declared.function.ResetOut.{ResetOut}
 -- a read that no effect answers
 abbrev pub readPlain : ℕ → ℕ → Snapshot → ReadOut
 readPlain n v b =
-    record { refusal = n; inside = false; value = v; «capability_id» = 0; region = noPlacedEffect; offset = 0; body = b }
+    record { refusal = n; inside = false; value = v; «capability_id» = 0; region = noPlacedEffect; offset = 0; «region_offset» = 0; body = b }
 
 -- a value, or the numbers of an effect with the copy of the live body, or a refusal alone
 abbrev pub readNumbers : Snapshot → ReadAnswer → ReadOut
 readNumbers b (read.Value v) = readPlain (readNumber (read.Value v)) v b
-readNumbers b (read.Effect id region offset) =
-    record { refusal = readNumber (read.Effect id region offset); inside = true; value = 0; «capability_id» = id; region = region; offset = offset; body = b }
+readNumbers b (read.Effect id region offset regionOffset) =
+    record { refusal = readNumber (read.Effect id region offset regionOffset); inside = true; value = 0; «capability_id» = id; region = region; offset = offset; «region_offset» = regionOffset; body = b }
 readNumbers b read.BadAccess = readPlain (readNumber read.BadAccess) 0 b
 readNumbers b read.BadEffect = readPlain (readNumber read.BadEffect) 0 b
 
@@ -44,7 +44,7 @@ abbrev pub kindOf : WriteAnswer → ℕ
 kindOf write.Stored = 0
 kindOf (write.Probing slot) = 1
 kindOf (write.Candidate slot address) = 2
-kindOf (write.Effect id region offset) = 3
+kindOf (write.Effect id region offset regionOffset) = 3
 kindOf write.BadAccess = 0
 kindOf write.BadEffect = 0
 kindOf write.Exhausted = 0
@@ -52,7 +52,7 @@ kindOf write.Exhausted = 0
 -- a write that no effect answers
 abbrev pub writePlain : ℕ → ℕ → ℕ → ℕ → Snapshot → FunctionState → WriteOut
 writePlain n kind slot address b f =
-    record { refusal = n; kind = kind; slot = slot; address = address; «capability_id» = 0; region = noPlacedEffect; offset = 0; body = b; state = f }
+    record { refusal = n; kind = kind; slot = slot; address = address; «capability_id» = 0; region = noPlacedEffect; offset = 0; «region_offset» = 0; body = b; state = f }
 
 -- an answer with its number and its kind, at a slot and an address
 abbrev pub writeAt : WriteAnswer → ℕ → ℕ → Snapshot → FunctionState → WriteOut
@@ -63,8 +63,8 @@ abbrev pub writeNumbers : Snapshot → FunctionState → WriteAnswer → WriteOu
 writeNumbers b f write.Stored = writeAt write.Stored 0 0 b f
 writeNumbers b f (write.Probing slot) = writeAt (write.Probing slot) slot 0 b f
 writeNumbers b f (write.Candidate slot address) = writeAt (write.Candidate slot address) slot address b f
-writeNumbers b f (write.Effect id region offset) =
-    record { refusal = writeNumber (write.Effect id region offset); kind = kindOf (write.Effect id region offset); slot = 0; address = 0; «capability_id» = id; region = region; offset = offset; body = b; state = f }
+writeNumbers b f (write.Effect id region offset regionOffset) =
+    record { refusal = writeNumber (write.Effect id region offset regionOffset); kind = kindOf (write.Effect id region offset regionOffset); slot = 0; address = 0; «capability_id» = id; region = region; offset = offset; «region_offset» = regionOffset; body = b; state = f }
 writeNumbers b f write.BadAccess = writeAt write.BadAccess 0 0 b f
 writeNumbers b f write.BadEffect = writeAt write.BadEffect 0 0 b f
 writeNumbers b f write.Exhausted = writeAt write.Exhausted 0 0 b f

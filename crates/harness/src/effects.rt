@@ -38,6 +38,7 @@ pub struct Touched {
     pub capability_id: u8,
     pub region: PlacedEffect,
     pub offset: u16,
+    pub region_offset: u16,
 }
 
 // An access that is inside no effect.
@@ -50,6 +51,7 @@ fn outside(refusal: u8) -> Touched
         capability_id: 0,
         region: PlacedEffect::none(),
         offset: 0,
+        region_offset: 0,
     }
 }
 
@@ -63,12 +65,14 @@ fn touch_numbers(touch: Touch) -> Touched
             capability_id,
             region,
             offset,
+            region_offset,
         } => Touched {
             refusal,
             inside: true,
             capability_id,
             region,
             offset,
+            region_offset,
         },
         Touch::Refused => outside(refusal),
     }

@@ -42,6 +42,7 @@ pub struct ReadOut {
     pub capability_id: u8,
     pub region: PlacedEffect,
     pub offset: u16,
+    pub region_offset: u16,
     pub body: Snapshot,
 }
 
@@ -55,6 +56,7 @@ pub struct WriteOut {
     pub capability_id: u8,
     pub region: PlacedEffect,
     pub offset: u16,
+    pub region_offset: u16,
     pub body: Snapshot,
     pub state: FunctionState,
 }
@@ -85,6 +87,7 @@ fn plain_read(refusal: u8, value: u64, body: Snapshot) -> ReadOut
         capability_id: 0,
         region: PlacedEffect::none(),
         offset: 0,
+        region_offset: 0,
         body,
     }
 }
@@ -99,6 +102,7 @@ fn read_out(answer: ReadAnswer, body: Snapshot) -> ReadOut
             capability_id,
             region,
             offset,
+            region_offset,
         } => ReadOut {
             refusal,
             inside: true,
@@ -106,6 +110,7 @@ fn read_out(answer: ReadAnswer, body: Snapshot) -> ReadOut
             capability_id,
             region,
             offset,
+            region_offset,
             body,
         },
         ReadAnswer::BadAccess => plain_read(refusal, 0, body),
@@ -143,6 +148,7 @@ fn plain_write(
         capability_id: 0,
         region: PlacedEffect::none(),
         offset: 0,
+        region_offset: 0,
         body,
         state,
     }
@@ -162,6 +168,7 @@ fn kind_of(answer: WriteAnswer) -> u8
             capability_id: _,
             region: _,
             offset: _,
+            region_offset: _,
         } => KIND_EFFECT,
         WriteAnswer::BadAccess => KIND_STORED,
         WriteAnswer::BadEffect => KIND_STORED,
@@ -184,6 +191,7 @@ fn write_out(answer: WriteAnswer, body: Snapshot, state: FunctionState) -> Write
             capability_id,
             region,
             offset,
+            region_offset,
         } => WriteOut {
             refusal,
             kind,
@@ -192,6 +200,7 @@ fn write_out(answer: WriteAnswer, body: Snapshot, state: FunctionState) -> Write
             capability_id,
             region,
             offset,
+            region_offset,
             body,
             state,
         },

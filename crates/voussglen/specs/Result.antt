@@ -59,19 +59,19 @@ kindHit = 8
 abbrev pub kindMiss : ℕ
 kindMiss = 9
 
--- "capability id, region, offset from the capability's start"
-abbrev pub effectTold : ℕ → PlacedEffect → ℕ → EffectTold
-effectTold id region offset = record { «capability_id» = id; region = region; offset = offset }
+-- "capability id, region, offset from the capability's start", and "the offset from the region's own start"
+abbrev pub effectTold : ℕ → PlacedEffect → ℕ → ℕ → EffectTold
+effectTold id region offset regionOffset = record { «capability_id» = id; region = region; offset = offset; «region_offset» = regionOffset }
 
 abbrev pub noEffect : EffectTold
-noEffect = effectTold 0 noPlacedEffect 0
+noEffect = effectTold 0 noPlacedEffect 0 0
 
 abbrev pub readPlain : ℕ → ℕ → ℕ → ReadResult
 readPlain kind refusal value = record { kind = kind; refusal = refusal; value = value; effect = noEffect }
 
 abbrev pub readResult : ReadAnswer → ReadResult
 readResult (read.Value v) = readPlain kindValue (readNumber (read.Value v)) v
-readResult (read.Effect id region offset) = record { kind = kindEffect; refusal = readNumber (read.Effect id region offset); value = 0; effect = effectTold id region offset }
+readResult (read.Effect id region offset regionOffset) = record { kind = kindEffect; refusal = readNumber (read.Effect id region offset regionOffset); value = 0; effect = effectTold id region offset regionOffset }
 readResult read.BadAccess = readPlain kindRefused (readNumber read.BadAccess) 0
 readResult read.BadEffect = readPlain kindRefused (readNumber read.BadEffect) 0
 
@@ -84,7 +84,7 @@ writeResult write.Dropped = writePlain kindDropped (busWriteNumber write.Dropped
 writeResult (write.Probing slot) = writePlain kindProbing (busWriteNumber (write.Probing slot)) 0 slot 0
 writeResult (write.Moved slot address) = writePlain kindMoved (busWriteNumber (write.Moved slot address)) 0 slot address
 writeResult (write.Kept slot address) = writePlain kindKept (busWriteNumber (write.Kept slot address)) 0 slot address
-writeResult (write.Effect id region offset) = record { kind = kindEffect; refusal = busWriteNumber (write.Effect id region offset); device = 0; slot = 0; address = 0; effect = effectTold id region offset }
+writeResult (write.Effect id region offset regionOffset) = record { kind = kindEffect; refusal = busWriteNumber (write.Effect id region offset regionOffset); device = 0; slot = 0; address = 0; effect = effectTold id region offset regionOffset }
 writeResult write.BadAccess = writePlain kindRefused (busWriteNumber write.BadAccess) 0 0 0
 writeResult write.BadEffect = writePlain kindRefused (busWriteNumber write.BadEffect) 0 0 0
 writeResult (write.Exhausted device) = writePlain kindRefused (busWriteNumber (write.Exhausted device)) device 0 0
@@ -92,7 +92,7 @@ writeResult (write.Exhausted device) = writePlain kindRefused (busWriteNumber (w
 -- the buffer for a body: that of an effect, else what it held
 abbrev pub readBody : Snapshot → Snapshot → ReadAnswer → Snapshot
 readBody told held (read.Value v) = held
-readBody told held (read.Effect id region offset) = told
+readBody told held (read.Effect id region offset regionOffset) = told
 readBody told held read.BadAccess = held
 readBody told held read.BadEffect = held
 
@@ -102,7 +102,7 @@ writeBody told held write.Dropped = held
 writeBody told held (write.Probing slot) = held
 writeBody told held (write.Moved slot address) = held
 writeBody told held (write.Kept slot address) = held
-writeBody told held (write.Effect id region offset) = told
+writeBody told held (write.Effect id region offset regionOffset) = told
 writeBody told held write.BadAccess = held
 writeBody told held write.BadEffect = held
 writeBody told held (write.Exhausted device) = held

@@ -36,6 +36,7 @@ fn result_of(answer: ReadAnswer) -> ReadResult
             capability_id,
             region,
             offset,
+            region_offset,
         } => ReadResult {
             kind: KIND_EFFECT,
             refusal,
@@ -44,6 +45,7 @@ fn result_of(answer: ReadAnswer) -> ReadResult
                 capability_id,
                 region,
                 offset,
+                region_offset,
             },
         },
         ReadAnswer::BadAccess => plain(KIND_REFUSED, refusal, 0),
@@ -61,6 +63,7 @@ fn body_of(answer: ReadAnswer, told: Snapshot, held: Snapshot) -> Snapshot
             capability_id: _,
             region: _,
             offset: _,
+            region_offset: _,
         } => told,
         ReadAnswer::BadAccess => held,
         ReadAnswer::BadEffect => held,

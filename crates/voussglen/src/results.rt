@@ -24,12 +24,13 @@ pub const KIND_HIT: u8 = 8;
 
 pub const KIND_MISS: u8 = 9;
 
-// The effect that an access is inside: its capability's id, its region, and the access's offset from the capability's start.
+// The effect that an access is inside: its capability's id, its region, and the access's offset from the capability's start and from the region's own.
 #[repr(C)]
 pub struct EffectTold {
     pub capability_id: u8,
     pub region: PlacedEffect,
     pub offset: u16,
+    pub region_offset: u16,
 }
 
 // `width` bytes at `offset` of a device.
@@ -111,5 +112,6 @@ pub(crate) fn no_effect() -> EffectTold
         capability_id: 0,
         region: PlacedEffect::none(),
         offset: 0,
+        region_offset: 0,
     }
 }

@@ -45,6 +45,7 @@ fn result_of(answer: BusWriteAnswer) -> WriteResult
             capability_id,
             region,
             offset,
+            region_offset,
         } => WriteResult {
             kind: KIND_EFFECT,
             refusal,
@@ -55,6 +56,7 @@ fn result_of(answer: BusWriteAnswer) -> WriteResult
                 capability_id,
                 region,
                 offset,
+                region_offset,
             },
         },
         BusWriteAnswer::BadAccess => plain(KIND_REFUSED, refusal, 0, 0, 0),
@@ -83,6 +85,7 @@ fn body_of(answer: BusWriteAnswer, told: Snapshot, held: Snapshot) -> Snapshot
             capability_id: _,
             region: _,
             offset: _,
+            region_offset: _,
         } => told,
         BusWriteAnswer::BadAccess => held,
         BusWriteAnswer::BadEffect => held,

@@ -58,6 +58,8 @@ pub struct Effect {
     pub region: PlacedEffect,
     /// Of the access, from the capability's start.
     pub offset: u16,
+    /// Of the access, from the region's own start; this plus the width is at most the region's length.
+    pub region_offset: u16,
     /// A copy of the capability's live body.
     pub body: Vec<u8>,
 }
@@ -183,6 +185,7 @@ impl Effect {
             capability_id: told.capability_id,
             region: told.region,
             offset: told.offset,
+            region_offset: told.region_offset,
             body: body.bytes[..usize::from(body.length)].to_vec(),
         }
     }

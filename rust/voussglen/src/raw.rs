@@ -105,10 +105,11 @@ structs! {
         bytes 1: [u8; LONGEST_BODY],
     }
 
-    EffectTold 10 {
+    EffectTold 12 {
         capability_id 0: u8,
         region 2: PlacedEffect,
         offset 8: u16,
+        region_offset 10: u16,
     }
 
     ReadAsk 24 {

@@ -124,12 +124,19 @@ fn refused_files() {
 fn effects() {
     let mut bus = Bus::from_declaration(WITH_EFFECT).unwrap();
     let region = PlacedEffect { id: 0x0201, capability: 0, offset: 3, length: 2, access: 1 };
-    let effect = |first| Effect { capability_id: 9, region, offset: 3, body: vec![first, 0xa1, 0xa2, 0xa3] };
-    assert_eq!(bus.read(1, 0x43, 1), Ok(Read::Effect(effect(0xa0))));
+    let effect = |offset, region_offset, first| Effect {
+        capability_id: 9,
+        region,
+        offset,
+        region_offset,
+        body: vec![first, 0xa1, 0xa2, 0xa3],
+    };
+    assert_eq!(bus.read(1, 0x43, 1), Ok(Read::Effect(effect(3, 0, 0xa0))));
+    assert_eq!(bus.read(1, 0x44, 1), Ok(Read::Effect(effect(4, 1, 0xa0))));
     assert_eq!(bus.read(1, 0x42, 2), Err(nowhere(19)));
     assert_eq!(bus.write(1, 0x43, 1, 0), Err(nowhere(19)));
     assert_eq!(bus.write(1, 0x42, 1, 0x5c), Ok(Written::Stored));
-    assert_eq!(bus.read(1, 0x43, 1), Ok(Read::Effect(effect(0x5c))));
+    assert_eq!(bus.read(1, 0x43, 1), Ok(Read::Effect(effect(3, 0, 0x5c))));
     let report = bus.enumerate(1).unwrap();
     assert_eq!(report.pin, 2);
     assert_eq!(report.capabilities, [Listed { offset: 0x40, id: 9 }, Listed { offset: 0x48, id: 5 }]);

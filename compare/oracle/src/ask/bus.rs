@@ -117,7 +117,7 @@ fn write(root: &PciRootState, bdf: PciBdf, offset: u16, width: AccessWidth, valu
     })
 }
 
-/// The root hands on the effect's id; the region is the one declared under it.
+/// The root hands on the effect's id; the region is the one declared under it, and its offset is subtracted here.
 fn touched(root: &PciRootState, bdf: PciBdf, effect: &PciConfigReadEffect) -> Touched {
     let function = root.topology().functions().find(|function| function.bdf() == bdf).expect("bound");
     let region = function
@@ -130,6 +130,7 @@ fn touched(root: &PciRootState, bdf: PciBdf, effect: &PciConfigReadEffect) -> To
         effect: effect.effect.value(),
         region: (region.offset(), region.length()),
         offset: effect.offset,
+        region_offset: effect.offset - region.offset(),
         body: effect.body.bytes().to_vec(),
     }
 }

@@ -100,6 +100,7 @@ fn touch(state: &FunctionState, offset: usize, size: usize, width: AccessWidth, 
             effect: region.effect().value(),
             region: (region.offset(), region.length()),
             offset,
+            region_offset: offset - region.offset(),
             body: body.bytes().to_vec(),
         }),
     }

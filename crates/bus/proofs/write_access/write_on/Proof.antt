@@ -70,8 +70,8 @@ comes-to-requires-5 c κs = search needs
 enum-told-4 : tie.Need-enum-told-4
 enum-told-4 c = search needs
 
-element-copy-out-t33 : tie.Need-element-copy-out-t33
-element-copy-out-t33 c = search needs
+element-copy-out-t34 : tie.Need-element-copy-out-t34
+element-copy-out-t34 c = search needs
 
 comes-to-requires-6 : tie.Need-comes-to-requires-6
 comes-to-requires-6 c κs = search needs
@@ -117,7 +117,7 @@ write-on-spec =
     enum-told-3
     comes-to-requires-5
     enum-told-4
-    element-copy-out-t33
+    element-copy-out-t34
     comes-to-requires-6
     returns
     returns-2

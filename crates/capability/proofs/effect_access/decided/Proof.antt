@@ -32,6 +32,15 @@ past-requires c κs = search needs
 cast-t16 : tie.Need-cast-t16
 cast-t16 c = search needs
 
+region-start-requires : tie.Need-region-start-requires
+region-start-requires c κs = search needs
+
+past-requires-2 : tie.Need-past-requires-2
+past-requires-2 c κs = search needs
+
+cast-t20 : tie.Need-cast-t20
+cast-t20 c = search needs
+
 -- what the two tests say
 held : (t : Bool) (c : tie.After-access-allows) → c .before .before .effect-holds .result ≡ t → holds (c .before .before .before .args .placed) (c .before .before .before .args .offset) (c .before .before .before .args .width) (c .before .before .before .args .i) ≡ t
 held t c e = sym (c .before .before .effect-holds .ensures) ∙ e
@@ -42,8 +51,9 @@ allowed t c e = rw (← c .before .effect-at .ensures) (sym (c .access-allows .e
 returns : tie.Need-returns
 unfolding spanOf
 returns c =
-    let d = c .before .before .before .before in
-    rw (decision-inside _ _ _ _ _ (held true (d .before .before) (d .before .if1 .taken)) (allowed true (d .before .before) (d .if2 .taken)), c .past .ensures, c .before .before .span-at .ensures, d .before .before .before .effect-at .ensures)
+    let e = c .before .before in
+    let d = e .before .before .before .before in
+    rw (decision-inside _ _ _ _ _ (held true (d .before .before) (d .before .if1 .taken)) (allowed true (d .before .before) (d .if2 .taken)), c .past2 .ensures, c .before .region-start .ensures, e .past .ensures, e .before .before .span-at .ensures, d .before .before .before .effect-at .ensures)
 
 returns-2 : tie.Need-returns-2
 returns-2 c = sym (decision-direction _ _ _ _ _ (allowed false (c .before .before) (c .if2 .left)))
@@ -63,6 +73,9 @@ decided-spec =
     cast-past
     past-requires
     cast-t16
+    region-start-requires
+    past-requires-2
+    cast-t20
     returns
     returns-2
     returns-3)

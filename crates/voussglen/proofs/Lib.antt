@@ -1,0 +1,2 @@
+-- What the structs of the boundary say of an access.
+pub mod EffectAnswers
