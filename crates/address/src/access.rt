@@ -5,7 +5,7 @@ ghost use Rattle.address.specs.Check.{access_of, access_number};
 use crate::config_layout::ACCESS_WIDTH_MOST;
 use crate::offset::{ConfigOffset, OffsetAnswer};
 
-#[derive(Drop)]
+#[derive(Clone, Copy)]
 pub enum Access {
     Good { offset: ConfigOffset, width: usize },
     Refused,

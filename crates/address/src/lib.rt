@@ -1,4 +1,6 @@
 // Places in config space: slots, offsets, the layout, the limits, and the check of an access.
+#![tactic(auto)]
+
 mod access;
 pub mod config_layout;
 pub mod limits;

@@ -3,10 +3,10 @@ ghost use Rattle.std.specs.Prelude.{◌≡◌};
 ghost use Rattle.address.specs.Kinds.{offset, offset_of};
 
 #[repr(C)]
-#[derive(Drop)]
+#[derive(Clone, Copy)]
 pub struct ConfigOffset(u16);
 
-#[derive(Drop)]
+#[derive(Clone, Copy)]
 pub enum OffsetAnswer {
     Good(ConfigOffset),
     Bad,

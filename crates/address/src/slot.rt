@@ -5,10 +5,10 @@ ghost use Rattle.address.specs.Kinds.{slot, slot_of, slot_number, index_of, regi
 use crate::config_layout::{BAR_COUNT, CONFIG_BAR_REGISTER_SIZE, CONFIG_BAR_START};
 
 #[repr(C)]
-#[derive(Drop)]
+#[derive(Clone, Copy)]
 pub struct Slot(u8);
 
-#[derive(Drop)]
+#[derive(Clone, Copy)]
 pub enum SlotAnswer {
     Good(Slot),
     Bad,

@@ -9,7 +9,7 @@ use address::Slot;
 
 // Where a BAR was placed. A size of 0 is no BAR.
 #[repr(C)]
-#[derive(Drop)]
+#[derive(Clone, Copy)]
 pub struct Plan {
     pub slot: Slot,
     pub size: u64,
@@ -17,7 +17,7 @@ pub struct Plan {
 }
 
 #[repr(C)]
-#[derive(Drop)]
+#[derive(Clone, Copy)]
 pub struct BarState {
     pub plan: Plan,
     pub address: u64,
@@ -25,14 +25,14 @@ pub struct BarState {
 }
 
 // What a write to a BAR's register asks for.
-#[derive(Drop)]
+#[derive(Clone, Copy)]
 pub enum BarWrite {
     Probe,
     Relocate(u64),
 }
 
 // Whether the candidate of a relocation was accepted.
-#[derive(Drop)]
+#[derive(Clone, Copy)]
 pub enum Relocation {
     Accepted(u64),
     Kept,

@@ -1,4 +1,6 @@
 // Memory BARs: requests, registers, states, and the ranges that they take.
+#![tactic(auto)]
+
 mod bar_state;
 mod memory_bar;
 mod range;

@@ -5,20 +5,20 @@ ghost use Rattle.bar.specs.Bar.{size_ok, bar_of, bar_number, no_bar};
 use crate::range::FOUR_GIB;
 use address::Slot;
 
-#[derive(Drop)]
+#[derive(Clone, Copy)]
 pub enum Request {
     Auto,
     Fixed(u64),
 }
 
-#[derive(Drop)]
+#[derive(Clone, Copy)]
 pub struct MemoryBar {
     slot: Slot,
     size: u64,
     request: Request,
 }
 
-#[derive(Drop)]
+#[derive(Clone, Copy)]
 pub enum BarAnswer {
     Good(MemoryBar),
     Bad,

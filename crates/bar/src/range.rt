@@ -6,7 +6,7 @@ pub const FOUR_GIB: u64 = 0x1_0000_0000;
 
 // `size` addresses from `start` on.
 #[repr(C)]
-#[derive(Drop)]
+#[derive(Clone, Copy)]
 pub struct Range {
     pub start: u64,
     pub size: u64,
@@ -14,13 +14,13 @@ pub struct Range {
 
 // The addresses from `start` up to `end`.
 #[repr(C)]
-#[derive(Drop)]
+#[derive(Clone, Copy)]
 pub struct Aperture {
     pub start: u64,
     pub end: u64,
 }
 
-#[derive(Drop)]
+#[derive(Clone, Copy)]
 pub enum ApertureAnswer {
     Good(Aperture),
     Bad,

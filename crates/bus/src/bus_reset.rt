@@ -8,13 +8,13 @@ use address::limits::FUNCTION_LIMIT;
 use config::{FunctionState, LARGEST_REVISION};
 
 // All restored; or 20 with the lowest device whose revision was at its largest, everything else done.
-#[derive(Drop)]
+#[derive(Clone, Copy)]
 pub enum BusResetAnswer {
     Restored,
     Exhausted(u8),
 }
 
-#[derive(Drop)]
+#[derive(Clone, Copy)]
 pub struct BusResetDone {
     pub answer: BusResetAnswer,
     pub bus: Bus,

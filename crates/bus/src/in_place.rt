@@ -9,7 +9,7 @@ use crate::write_access::{BusWriteDone, BusWriteReply, write};
 
 // `width` bytes of `value`, to be written at `offset` of a device.
 #[repr(C)]
-#[derive(Drop)]
+#[derive(Clone, Copy)]
 pub struct BusWrite {
     pub device: usize,
     pub offset: usize,

@@ -1,4 +1,6 @@
 // The bus: start, dispatch, relocation, lookup, reset; by value, and write and reset on a lent bus.
+#![tactic(auto)]
+
 mod bus_reset;
 mod in_place;
 mod memory_lookup;

@@ -11,7 +11,7 @@ use config::FunctionState;
 use placement::KEY_COUNT;
 
 // Device, slot and offset; a miss; or refusal 18.
-#[derive(Drop)]
+#[derive(Clone, Copy)]
 pub enum LookupAnswer {
     Hit {
         device: u8,

@@ -16,7 +16,7 @@ use declaration::{Declaration, DeclarationAnswer, Place, read_declaration};
 use placement::{DeclaredBars, FunctionBars, KEY_COUNT, PlacementAnswer, resolve_bar_addresses};
 
 // Accepted with the bus, or refused with number and place and the empty bus.
-#[derive(Drop)]
+#[derive(Clone, Copy)]
 pub struct Started {
     pub answer: DeclarationAnswer,
     pub bus: Bus,

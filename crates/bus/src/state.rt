@@ -12,7 +12,7 @@ use config::FunctionState;
 
 // The function at an index has the device at that index; devices ascend; what lies past the count is blank.
 #[repr(C)]
-#[derive(Drop)]
+#[derive(Clone, Copy)]
 pub struct Bus {
     pub aperture: Aperture,
     pub devices: [u8; FUNCTION_LIMIT],

@@ -14,7 +14,7 @@ use capability::{PlacedEffect, Snapshot};
 use config::{FunctionState, WriteAnswer, finish_at, no_body};
 
 // What a write did: stored, dropped, started a probe, moved a BAR or kept it where it was (the committed address is given), touched an effect; or refusal 18, 19, or 20 with the device.
-#[derive(Drop)]
+#[derive(Clone, Copy)]
 pub enum BusWriteAnswer {
     Stored,
     Dropped,
@@ -39,13 +39,13 @@ pub enum BusWriteAnswer {
 }
 
 // The answer, and for an effect the copy of the live body; else that of none.
-#[derive(Drop)]
+#[derive(Clone, Copy)]
 pub struct BusWriteReply {
     pub answer: BusWriteAnswer,
     pub body: Snapshot,
 }
 
-#[derive(Drop)]
+#[derive(Clone, Copy)]
 pub struct BusWriteDone {
     pub reply: BusWriteReply,
     pub bus: Bus,
@@ -89,7 +89,7 @@ fn done(answer: BusWriteAnswer, body: Snapshot, bus: Bus) -> BusWriteDone
 }
 
 // What a write to one function comes to: the answer, and the function after it. The bus is changed once, at the end.
-#[derive(Drop)]
+#[derive(Clone, Copy)]
 struct Written {
     pub reply: BusWriteReply,
     pub function: FunctionState,

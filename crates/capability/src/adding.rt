@@ -11,7 +11,7 @@ use crate::effect::{Effect, EffectAccess};
 use crate::placed::CAPABILITY_HEADER_SIZE;
 use address::limits::EFFECT_LIMIT;
 
-#[derive(Drop)]
+#[derive(Clone, Copy)]
 pub enum EffectAdded {
     Added,
     NoCapability,
@@ -19,7 +19,7 @@ pub enum EffectAdded {
     Bad,
 }
 
-#[derive(Drop)]
+#[derive(Clone, Copy)]
 pub struct EffectDone {
     pub answer: EffectAdded,
     pub state: Capabilities,

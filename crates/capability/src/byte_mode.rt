@@ -7,14 +7,14 @@ use crate::placed::{CAPABILITY_HEADER_SIZE, Placed};
 use address::ConfigOffset;
 
 // The capability that holds a byte, by its index.
-#[derive(Drop)]
+#[derive(Clone, Copy)]
 pub enum Holder {
     Capability(usize),
     Nobody,
 }
 
 // How a config byte is kept.
-#[derive(Drop)]
+#[derive(Clone, Copy)]
 pub enum ByteMode {
     Constant,
     StoredMasked,

@@ -10,20 +10,20 @@ use crate::placed::CAPABILITY_BODY_MAX_SIZE;
 use address::limits::{CAPABILITY_LIMIT, EFFECT_LIMIT};
 
 // A capability: its id, and the length of its body.
-#[derive(Drop)]
+#[derive(Clone, Copy)]
 pub struct Capability {
     id: u8,
     length: u8,
 }
 
-#[derive(Drop)]
+#[derive(Clone, Copy)]
 pub enum CapabilityAnswer {
     Good(Capability),
     Bad,
 }
 
 // Those of a function in declaration order, with their effects; what lies past a count is blank.
-#[derive(Drop)]
+#[derive(Clone, Copy)]
 pub struct Capabilities {
     pub list: [Capability; CAPABILITY_LIMIT],
     pub count: usize,
@@ -31,13 +31,13 @@ pub struct Capabilities {
     pub effect_count: usize,
 }
 
-#[derive(Drop)]
+#[derive(Clone, Copy)]
 pub enum CapabilityAdded {
     Added,
     Full,
 }
 
-#[derive(Drop)]
+#[derive(Clone, Copy)]
 pub struct CapabilityDone {
     pub answer: CapabilityAdded,
     pub state: Capabilities,

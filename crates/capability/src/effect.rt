@@ -11,21 +11,21 @@ pub const ACCESS_WRITE: u8 = 2;
 pub const ACCESS_BOTH: u8 = 3;
 
 // The directions that an effect allows.
-#[derive(Drop)]
+#[derive(Clone, Copy)]
 pub enum EffectAccess {
     Read,
     Write,
     ReadWrite,
 }
 
-#[derive(Drop)]
+#[derive(Clone, Copy)]
 pub enum AccessAnswer {
     Good(EffectAccess),
     Bad,
 }
 
 // An effect of the capability at index `capability`: `length` bytes, from `offset` bytes after that one's start.
-#[derive(Drop)]
+#[derive(Clone, Copy)]
 pub struct Effect {
     pub id: u16,
     pub capability: u8,

@@ -9,7 +9,7 @@ use crate::placed::{Placed, PlacedEffect};
 use address::ConfigOffset;
 
 // What an access does to the effects: the capability's id, the region, and the access's offset from the capability's start and from the region's own.
-#[derive(Drop)]
+#[derive(Clone, Copy)]
 pub enum Touch {
     Untouched,
     Effect {

@@ -11,14 +11,14 @@ use crate::repeat::repeats_at;
 use address::config_layout::CONFIG_STANDARD_HEADER_END;
 
 // With the index of the capability at fault.
-#[derive(Drop)]
+#[derive(Clone, Copy)]
 pub enum LayoutAnswer {
     Placed,
     Repeated(usize),
     PastEnd(usize),
 }
 
-#[derive(Drop)]
+#[derive(Clone, Copy)]
 pub struct LayoutDone {
     pub answer: LayoutAnswer,
     pub placed: Placed,

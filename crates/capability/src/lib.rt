@@ -1,4 +1,6 @@
 // PCI capabilities: declarations, layout, effects, byte modes, views.
+#![tactic(auto)]
+
 mod adding;
 mod byte_mode;
 mod declared;

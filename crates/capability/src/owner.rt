@@ -8,7 +8,7 @@ use address::limits::{CAPABILITY_LIMIT, EFFECT_LIMIT};
 
 // A capability as plain numbers: its id, its start in config space, the length of its body.
 #[repr(C)]
-#[derive(Drop)]
+#[derive(Clone, Copy)]
 pub struct Span {
     pub id: u8,
     pub start: u16,
@@ -16,7 +16,7 @@ pub struct Span {
 }
 
 // The effect that owns a byte, by its index.
-#[derive(Drop)]
+#[derive(Clone, Copy)]
 pub enum Owner {
     Effect(usize),
     Nobody,

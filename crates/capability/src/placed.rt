@@ -12,7 +12,7 @@ pub const CAPABILITY_BODY_MAX_SIZE: usize = 253;
 
 // A capability: where it starts, and how many bytes of body follow its two header bytes.
 #[repr(C)]
-#[derive(Drop)]
+#[derive(Clone, Copy)]
 pub struct PlacedCapability {
     pub id: u8,
     pub offset: ConfigOffset,
@@ -21,7 +21,7 @@ pub struct PlacedCapability {
 
 // An effect of the capability at index `capability`: its region starts `offset` bytes from that one's start; `access` is document 01's number, 1 read, 2 write, 3 both.
 #[repr(C)]
-#[derive(Drop)]
+#[derive(Clone, Copy)]
 pub struct PlacedEffect {
     pub id: u16,
     pub capability: u8,
@@ -32,7 +32,7 @@ pub struct PlacedEffect {
 
 // Those of a function; what lies past a count is blank.
 #[repr(C)]
-#[derive(Drop)]
+#[derive(Clone, Copy)]
 pub struct Placed {
     pub capabilities: [PlacedCapability; CAPABILITY_LIMIT],
     pub count: usize,

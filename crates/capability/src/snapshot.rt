@@ -8,7 +8,7 @@ use crate::placed::{CAPABILITY_BODY_MAX_SIZE, CAPABILITY_HEADER_SIZE, Placed};
 
 // `length` bytes of a body; what lies past them is zero.
 #[repr(C)]
-#[derive(Drop)]
+#[derive(Clone, Copy)]
 pub struct Snapshot {
     pub length: u8,
     pub bytes: [u8; CAPABILITY_BODY_MAX_SIZE],

@@ -7,7 +7,7 @@ use crate::placed::Placed;
 use crate::snapshot::{Snapshot, body_length, body_start, copy_of};
 
 // The body, where there is one: an absent view differs from an empty body.
-#[derive(Drop)]
+#[derive(Clone, Copy)]
 pub struct View<'a> {
     pub found: bool,
     pub body: &'a [u8],
@@ -15,7 +15,7 @@ pub struct View<'a> {
 
 // What a view shows, copied: it can be passed on where a struct that holds a reference cannot.
 #[repr(C)]
-#[derive(Drop)]
+#[derive(Clone, Copy)]
 pub struct ViewCopy {
     pub found: bool,
     pub body: Snapshot,

@@ -1,4 +1,6 @@
 // What a line of the console asks.
+#![tactic(auto)]
+
 mod line;
 mod numeral;
 

@@ -4,7 +4,7 @@ ghost use Rattle.command.specs.Command.{word_length, after_letter, no_argument, 
 
 use crate::numeral::numeral_of;
 
-#[derive(Drop)]
+#[derive(Clone, Copy)]
 pub enum Command {
     Read {
         device: usize,
@@ -29,7 +29,7 @@ pub enum Command {
 }
 
 // An argument: whether it and those before it are numbers, its value, and where the line goes on after it.
-#[derive(Drop)]
+#[derive(Clone, Copy)]
 pub struct Argument {
     pub good: bool,
     pub value: u64,

@@ -3,7 +3,7 @@ ghost use Rattle.std.specs.Prelude.{◌≡◌, ◌<◌};
 ghost use Rattle.command.specs.Numeral.{digit_of, no_number, numeral_of};
 
 // A number of 64 bits at most, or none.
-#[derive(Drop)]
+#[derive(Clone, Copy)]
 pub struct Numeral {
     pub good: bool,
     pub value: u64,

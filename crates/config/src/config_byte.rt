@@ -8,7 +8,7 @@ use address::{ConfigOffset, config_layout};
 use capability::{Holder, Placed, capability_at};
 
 // With the index of the config byte at fault.
-#[derive(Drop)]
+#[derive(Clone, Copy)]
 pub enum ByteCheck {
     Good,
     Bad(usize),

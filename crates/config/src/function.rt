@@ -9,7 +9,7 @@ pub const BODY_SPACE: usize = config_layout::CONFIG_SPACE_BYTES
     - config_layout::CONFIG_STANDARD_HEADER_END;
 
 #[repr(C)]
-#[derive(Drop)]
+#[derive(Clone, Copy)]
 pub struct Identity {
     pub vendor: u16,
     pub device: u16,
@@ -21,14 +21,14 @@ pub struct Identity {
     pub programming_interface: u8,
 }
 
-#[derive(Drop)]
+#[derive(Clone, Copy)]
 pub enum Intx {
     Absent,
     Pin { pin: u8, line: u8 },
 }
 
 #[repr(C)]
-#[derive(Drop)]
+#[derive(Clone, Copy)]
 pub struct ConfigByte {
     pub offset: ConfigOffset,
     pub value: u8,
@@ -36,7 +36,7 @@ pub struct ConfigByte {
 }
 
 // The bytes of bodies and masks lie each at its place in config space, from 0x40 on.
-#[derive(Drop)]
+#[derive(Clone, Copy)]
 pub struct Contents {
     pub identity: Identity,
     pub intx: Intx,
@@ -47,7 +47,7 @@ pub struct Contents {
 }
 
 // A function as it is declared; BARs by slot, a blank where there is none.
-#[derive(Drop)]
+#[derive(Clone, Copy)]
 pub struct Function {
     pub device: u8,
     pub contents: Contents,

@@ -7,7 +7,7 @@ use crate::write_step::{WriteDone, WriteReply, write};
 
 // `width` bytes of `value`, to be written at `offset`.
 #[repr(C)]
-#[derive(Drop)]
+#[derive(Clone, Copy)]
 pub struct ConfigWrite {
     pub offset: usize,
     pub width: usize,

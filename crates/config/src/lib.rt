@@ -1,4 +1,6 @@
 // A function's config space: power-on image, state, reads, writes, reset.
+#![tactic(auto)]
+
 mod command;
 mod config_byte;
 mod function;

@@ -17,7 +17,7 @@ use bar::BarState;
 use capability::{CAPABILITY_HEADER_SIZE, Placed, capability_count, capability_start};
 
 #[repr(C)]
-#[derive(Drop)]
+#[derive(Clone, Copy)]
 pub struct PowerOn {
     pub image: [u8; CONFIG_SPACE_BYTES],
     pub mask: [u8; CONFIG_SPACE_BYTES],

@@ -8,7 +8,7 @@ use address::{Access, ConfigOffset, check};
 use capability::{PlacedEffect, Snapshot, Touch, effect_for_access, snapshot_of};
 
 // What a read gives: a value, or an effect with its capability's id, its region and the offset from the capability's start and from the region's own; or refusal 18 or 19.
-#[derive(Drop)]
+#[derive(Clone, Copy)]
 pub enum ReadAnswer {
     Value(u64),
     Effect {
@@ -41,7 +41,7 @@ impl ReadAnswer {
 }
 
 // The answer, and for an effect the copy of the live body; else that of none.
-#[derive(Drop)]
+#[derive(Clone, Copy)]
 pub struct ReadReply {
     pub answer: ReadAnswer,
     pub body: Snapshot,

@@ -9,7 +9,7 @@ use address::limits::BAR_SLOTS;
 use bar::BarState;
 
 // Restored; or 20, with the revision at its largest and everything else restored.
-#[derive(Drop)]
+#[derive(Clone, Copy)]
 pub enum ResetAnswer {
     Restored,
     Exhausted,
@@ -27,7 +27,7 @@ impl ResetAnswer {
     }
 }
 
-#[derive(Drop)]
+#[derive(Clone, Copy)]
 pub struct ResetDone {
     pub answer: ResetAnswer,
     pub state: FunctionState,

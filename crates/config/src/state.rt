@@ -11,7 +11,7 @@ use capability::{CAPABILITY_BODY_MAX_SIZE, Placed, Snapshot};
 
 // Two images and the write masks, six BARs by value (a plan of size 0 is no BAR), the placed capabilities and effects, the revision.
 #[repr(C)]
-#[derive(Drop)]
+#[derive(Clone, Copy)]
 pub struct FunctionState {
     pub live: [u8; CONFIG_SPACE_BYTES],
     pub power_on: [u8; CONFIG_SPACE_BYTES],

@@ -10,7 +10,7 @@ use bar::{BarWrite, Relocation};
 use capability::{PlacedEffect, Snapshot, Touch, effect_for_access, snapshot_of};
 
 // What a write did: stored, started a probe, asks for a candidate (nothing is changed until the bus answers), touched an effect; or refusal 18, 19 or 20.
-#[derive(Drop)]
+#[derive(Clone, Copy)]
 pub enum WriteAnswer {
     Stored,
     Probing(usize),
@@ -55,13 +55,13 @@ impl WriteAnswer {
 }
 
 // The answer, and for an effect the copy of the live body; else that of none.
-#[derive(Drop)]
+#[derive(Clone, Copy)]
 pub struct WriteReply {
     pub answer: WriteAnswer,
     pub body: Snapshot,
 }
 
-#[derive(Drop)]
+#[derive(Clone, Copy)]
 pub struct WriteDone {
     pub reply: WriteReply,
     pub state: FunctionState,

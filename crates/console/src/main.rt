@@ -1,4 +1,6 @@
 // The console: a bus of the declaration that the first argument names; each line of standard input is answered at once.
+#![tactic(auto)]
+
 mod talk;
 
 use bus::Bus;

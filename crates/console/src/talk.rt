@@ -4,13 +4,13 @@ use dialogue::{ANSWER_ROOM, Answered, LINE_MOST};
 use libc::{STDIN_FILENO, STDOUT_FILENO};
 
 // How much of the last line is held, and whether it began before that.
-#[derive(Drop)]
+#[derive(Clone, Copy)]
 struct Held {
     pub length: usize,
     pub long: bool,
 }
 
-#[derive(Drop)]
+#[derive(Clone, Copy)]
 struct Talk {
     pub bus: Bus,
     pub held: Held,

@@ -11,20 +11,20 @@ use bar::Aperture;
 use config::Function;
 
 // Where a refusal is: at an offset of the file, or at an index of a device.
-#[derive(Drop)]
+#[derive(Clone, Copy)]
 pub enum Place {
     Offset(usize),
     Index { device: u8, index: usize },
 }
 
-#[derive(Drop)]
+#[derive(Clone, Copy)]
 pub enum DeclarationAnswer {
     Accepted,
     Refused { number: u8, place: Place },
 }
 
 // A bus as it is declared, its functions in device order; what lies past the count is blank.
-#[derive(Drop)]
+#[derive(Clone, Copy)]
 pub struct Declaration {
     pub has_aperture: bool,
     pub aperture: Aperture,
@@ -33,7 +33,7 @@ pub struct Declaration {
 }
 
 // The answer, and the declaration; the empty one where it is refused.
-#[derive(Drop)]
+#[derive(Clone, Copy)]
 pub struct Declared {
     pub answer: DeclarationAnswer,
     pub declaration: Declaration,

@@ -9,7 +9,7 @@ use address::limits::FUNCTION_LIMIT;
 use config::Function;
 
 // What lies past the count is blank.
-#[derive(Drop)]
+#[derive(Clone, Copy)]
 pub struct Finished {
     pub functions: [Function; FUNCTION_LIMIT],
     pub count: usize,

@@ -8,7 +8,7 @@ use crate::tag::{body_long, length_allowed};
 const FIELD_HEADER: usize = 3;
 
 // What stands at a position: a field with the span of its body, or the number of the refusal.
-#[derive(Drop)]
+#[derive(Clone, Copy)]
 pub enum Frame {
     Field {
         tag: u8,

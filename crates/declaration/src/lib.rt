@@ -1,4 +1,6 @@
 // The declaration file: its fields, what they declare, and its refusals.
+#![tactic(auto)]
+
 mod answer;
 mod finished;
 mod frame;

@@ -5,7 +5,7 @@ ghost use Rattle.declaration.specs.Reader.{more_at, field_body, next_from};
 
 use crate::frame::{Frame, field_body, frame_at, more_at, next_at};
 
-#[derive(Drop)]
+#[derive(Clone, Copy)]
 pub struct Reader<'a> {
     pub file: &'a [u8],
     pub at: usize,

@@ -9,7 +9,7 @@ use crate::so_far::SoFar;
 use crate::take::take_field;
 
 // How the reading stands: the number of the refusal, or 0; the position of the refused field, or of the next one.
-#[derive(Drop)]
+#[derive(Clone, Copy)]
 pub struct Reading {
     pub number: u8,
     pub at: usize,

@@ -9,7 +9,7 @@ use capability::{AccessAnswer, EffectAccess};
 use config::Identity;
 
 // What a field says; Bad is refusal 2. The bytes of a capability's body and masks stay in the field's body.
-#[derive(Drop)]
+#[derive(Clone, Copy)]
 pub enum Said {
     Aperture {
         start: u64,

@@ -9,7 +9,7 @@ use capability::{CAPABILITY_BODY_MAX_SIZE, Capabilities};
 use config::{BODY_SPACE, ConfigByte, Contents, Function, Identity, Intx};
 
 // The aperture, the devices in the order of the file, the latest function, and the write masks of its latest capability.
-#[derive(Drop)]
+#[derive(Clone, Copy)]
 pub struct SoFar {
     pub has_aperture: bool,
     pub aperture: Aperture,

@@ -8,7 +8,7 @@ use crate::said::{Said, say};
 use crate::so_far::SoFar;
 
 // The number of the refusal, or 0, and the declaration with the field, or as it was.
-#[derive(Drop)]
+#[derive(Clone, Copy)]
 pub struct Taken {
     pub number: u8,
     pub state: SoFar,

@@ -9,7 +9,7 @@ use capability::{LayoutAnswer, layout_capabilities};
 use config::{ByteCheck, Function, check_config_bytes};
 
 // A number, and the index of the capability or config byte; 0 and 0 where there is no fault.
-#[derive(Drop)]
+#[derive(Clone, Copy)]
 pub struct Fault {
     pub number: u8,
     pub index: usize,

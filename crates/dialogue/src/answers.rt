@@ -24,7 +24,7 @@ pub const ANSWER_ROOM: usize = FUNCTION_LIMIT * (24 + 16 * 52 + 1);
 pub const LINE_MOST: usize = 4096;
 
 // How long the answer is, and the bus after it.
-#[derive(Drop)]
+#[derive(Clone, Copy)]
 pub struct Answered {
     pub length: usize,
     pub bus: Bus,

@@ -1,4 +1,6 @@
 // The console's dialogue: what is answered to a line.
+#![tactic(auto)]
+
 mod access;
 mod answers;
 mod dump;

@@ -1,4 +1,6 @@
 // Enumeration: what a guest finds of a device, by the bus's own reads and writes.
+#![tactic(auto)]
+
 mod asked;
 mod capability_list;
 mod report;

@@ -4,7 +4,7 @@ use config::Identity;
 
 // A slot: its size and address; a size of 0 is an empty one.
 #[repr(C)]
-#[derive(Drop)]
+#[derive(Clone, Copy)]
 pub struct SlotReport {
     pub size: u64,
     pub address: u64,
@@ -12,7 +12,7 @@ pub struct SlotReport {
 
 // A capability in the list: its offset and id.
 #[repr(C)]
-#[derive(Drop)]
+#[derive(Clone, Copy)]
 pub struct Listed {
     pub offset: u8,
     pub id: u8,
@@ -20,7 +20,7 @@ pub struct Listed {
 
 // Absent, with everything blank; or identity, pin, slots, and the list of capabilities, blank past its count.
 #[repr(C)]
-#[derive(Drop)]
+#[derive(Clone, Copy)]
 pub struct Report {
     pub present: bool,
     pub identity: Identity,

@@ -36,7 +36,7 @@ fn slot_by(address: u64, mask: u64) -> SlotReport
     }
 }
 
-#[derive(Drop)]
+#[derive(Clone, Copy)]
 struct SlotDone {
     pub report: SlotReport,
     pub bus: Bus,
@@ -60,7 +60,7 @@ fn enumerate_slot(bus: Bus, device: usize, slot: usize) -> SlotDone
     }
 }
 
-#[derive(Drop)]
+#[derive(Clone, Copy)]
 pub(crate) struct SlotsDone {
     pub slots: [SlotReport; BAR_SLOTS],
     pub bus: Bus,

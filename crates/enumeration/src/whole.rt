@@ -11,7 +11,7 @@ use bus::Bus;
 use config::Identity;
 
 // What is reported, and the bus afterwards.
-#[derive(Drop)]
+#[derive(Clone, Copy)]
 pub struct Enumerated {
     pub report: Report,
     pub bus: Bus,

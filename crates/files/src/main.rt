@@ -1,4 +1,6 @@
 // Files and what the placement program has to print for each, as an independent implementation answered.
+#![tactic(auto)]
+
 mod records;
 
 use libc::{STDIN_FILENO, STDOUT_FILENO};

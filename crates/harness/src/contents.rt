@@ -15,7 +15,7 @@ use config::{
 
 // A function's contents; pin and line count where there is INTx.
 #[repr(C)]
-#[derive(Drop)]
+#[derive(Clone, Copy)]
 pub struct ContentsNumbers {
     pub identity: Identity,
     pub has_intx: bool,
@@ -29,7 +29,7 @@ pub struct ContentsNumbers {
 
 // Refusal 9 with the index of the first config byte at fault; 0 and 0 where all may stand.
 #[repr(C)]
-#[derive(Drop)]
+#[derive(Clone, Copy)]
 pub struct BytesOut {
     pub refusal: u8,
     pub index: usize,

@@ -24,7 +24,7 @@ const MODE_EFFECT: u8 = 3;
 
 // What an access does to the effects; blank but for the refusal where it is not inside one.
 #[repr(C)]
-#[derive(Drop)]
+#[derive(Clone, Copy)]
 pub struct Touched {
     pub refusal: u8,
     pub inside: bool,

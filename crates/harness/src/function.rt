@@ -23,14 +23,14 @@ const KIND_CANDIDATE: u8 = 2;
 const KIND_EFFECT: u8 = 3;
 
 #[repr(C)]
-#[derive(Drop)]
+#[derive(Clone, Copy)]
 pub struct Bars {
     pub bars: [BarState; BAR_SLOTS],
 }
 
 // A value, or an effect that the read is inside, or a refusal; what is not told is blank.
 #[repr(C)]
-#[derive(Drop)]
+#[derive(Clone, Copy)]
 pub struct ReadOut {
     pub refusal: u8,
     pub inside: bool,
@@ -44,7 +44,7 @@ pub struct ReadOut {
 
 // What the write did by its kind, or a refusal, and the state after it; what is not told is blank.
 #[repr(C)]
-#[derive(Drop)]
+#[derive(Clone, Copy)]
 pub struct WriteOut {
     pub refusal: u8,
     pub kind: u8,
@@ -59,7 +59,7 @@ pub struct WriteOut {
 }
 
 #[repr(C)]
-#[derive(Drop)]
+#[derive(Clone, Copy)]
 pub struct ResetOut {
     pub refusal: u8,
     pub state: FunctionState,

@@ -5,6 +5,8 @@
 // - `harness_layout` tests no effect for refusal 11, nor that effects come capability by capability. `harness_effect` adds to the last capability, whatever index the effect has.
 // - `harness_place` tests neither the aperture (8) nor the numbers and the order of devices (5); a size that refusal 7 is given for is no BAR.
 // - `harness_power_on`, `harness_config_bytes`, `harness_start` and the steps take identity, pin, BARs, images and placed capabilities as they are, and `harness_finish` moves a BAR where it is told.
+#![tactic(auto)]
+
 mod contents;
 mod effects;
 mod function;

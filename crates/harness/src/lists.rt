@@ -14,7 +14,7 @@ use word::at_most;
 
 // A function's capabilities in declaration order, each with its id and body length, and its effects with the index of their capability and the number of their access.
 #[repr(C)]
-#[derive(Drop)]
+#[derive(Clone, Copy)]
 pub struct DeclaredNumbers {
     pub ids: [u8; CAPABILITY_LIMIT],
     pub lengths: [u8; CAPABILITY_LIMIT],
@@ -25,7 +25,7 @@ pub struct DeclaredNumbers {
 
 // Refusal 0 where all are placed; else 12 or 13, with the index of the capability at fault, and nothing placed.
 #[repr(C)]
-#[derive(Drop)]
+#[derive(Clone, Copy)]
 pub struct LaidOut {
     pub refusal: u8,
     pub index: usize,

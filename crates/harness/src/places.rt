@@ -14,7 +14,7 @@ use placement::{
 
 // The aperture, and the BARs of `count` functions: place `i * 6 + slot` of an array is that slot of function i, and a size of 0 is no BAR.
 #[repr(C)]
-#[derive(Drop)]
+#[derive(Clone, Copy)]
 pub struct PlaceNumbers {
     pub start: u64,
     pub end: u64,
@@ -27,7 +27,7 @@ pub struct PlaceNumbers {
 
 // Refusal 0 where all are placed; else 14 to 17, with the device and the slot, and no address.
 #[repr(C)]
-#[derive(Drop)]
+#[derive(Clone, Copy)]
 pub struct PlacedOut {
     pub refusal: u8,
     pub device: u8,

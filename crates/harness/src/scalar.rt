@@ -18,7 +18,7 @@ use capability::Capability;
 
 // What a write to a BAR's register asks for: a probe, or an address; that is 0 for a probe.
 #[repr(C)]
-#[derive(Drop)]
+#[derive(Clone, Copy)]
 pub struct BarAsked {
     pub probe: bool,
     pub address: u64,

@@ -1,4 +1,6 @@
 // The placement program: a declaration on standard input, where its BARs are on standard output.
+#![tactic(auto)]
+
 use libc::{STDIN_FILENO, STDOUT_FILENO};
 use text::{FILE_MOST, TEXT_ROOM};
 

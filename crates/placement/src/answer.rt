@@ -11,7 +11,7 @@ use address::limits::{BAR_SLOTS, FUNCTION_LIMIT};
 use bar::{Aperture, Range};
 use refusal::ACCEPTED;
 
-#[derive(Drop)]
+#[derive(Clone, Copy)]
 pub enum PlacementAnswer {
     Placed,
     Refused { number: u8, device: u8, slot: u8 },
@@ -34,7 +34,7 @@ impl PlacementAnswer {
 }
 
 // The answer, and the address of each key: 0 where there is no BAR, and all 0 where it is refused.
-#[derive(Drop)]
+#[derive(Clone, Copy)]
 pub struct Placement {
     pub answer: PlacementAnswer,
     pub addresses: [u64; KEY_COUNT],

@@ -11,7 +11,7 @@ use crate::waiting::largest_waiting;
 use bar::{Aperture, MemoryBar, Range};
 use refusal::NO_PLACE;
 
-#[derive(Drop)]
+#[derive(Clone, Copy)]
 pub(crate) enum Next {
     At(usize),
     Nothing,

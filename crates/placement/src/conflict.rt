@@ -6,7 +6,7 @@ ghost use Rattle.placement.specs.Skip.{lower, conflict_in};
 use crate::keys::KEY_COUNT;
 use bar::Range;
 
-#[derive(Drop)]
+#[derive(Clone, Copy)]
 pub(crate) enum Conflict {
     With(Range),
     Free,

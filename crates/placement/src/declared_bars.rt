@@ -9,7 +9,7 @@ use address::limits::{BAR_SLOTS, FUNCTION_LIMIT};
 use bar::MemoryBar;
 
 // The BARs of one function, the first `count` of the array, in any order of slots.
-#[derive(Drop)]
+#[derive(Clone, Copy)]
 pub struct FunctionBars {
     pub device: u8,
     pub count: usize,
@@ -17,7 +17,7 @@ pub struct FunctionBars {
 }
 
 // Those of all functions, the first `count` of the array, in ascending order of devices.
-#[derive(Drop)]
+#[derive(Clone, Copy)]
 pub struct DeclaredBars {
     pub count: usize,
     pub functions: [FunctionBars; FUNCTION_LIMIT],

@@ -1,4 +1,6 @@
 // Where BARs are placed in the aperture.
+#![tactic(auto)]
+
 mod answer;
 mod automatic;
 mod conflict;

@@ -6,14 +6,14 @@ ghost use Rattle.placement.specs.Passes.{nothing_yet, settled};
 use crate::keys::KEY_COUNT;
 use bar::Range;
 
-#[derive(Drop)]
+#[derive(Clone, Copy)]
 pub(crate) enum Verdict {
     Going,
     Refused { number: u8, key: usize },
 }
 
 // What each key has been given so far; an empty range is nothing yet.
-#[derive(Drop)]
+#[derive(Clone, Copy)]
 pub(crate) struct Placing {
     pub verdict: Verdict,
     pub placed: [Range; KEY_COUNT],

@@ -10,7 +10,7 @@ use bar::{Aperture, Range};
 
 const LAST_ADDRESS: u64 = 0xffff_ffff_ffff_ffff;
 
-#[derive(Drop)]
+#[derive(Clone, Copy)]
 pub enum Fit {
     At(u64),
     Nothing,

@@ -7,7 +7,7 @@ use crate::keys::KEY_COUNT;
 use bar::{MemoryBar, Range, Request};
 
 // A key and the size that waits there; a size of 0 is nothing that waits.
-#[derive(Drop)]
+#[derive(Clone, Copy)]
 pub(crate) struct Waiting {
     pub key: usize,
     pub size: u64,

@@ -1,4 +1,6 @@
 // Document 01's refusal numbers. No other code spells one of them.
+#![tactic(auto)]
+
 ghost use Rattle.std.specs.Prelude.{◌≡◌};
 ghost use Rattle.refusal.specs.Number.{numbers};
 

@@ -1,4 +1,6 @@
 // Replays recorded answers of axdevice: the library has to answer each question as the record says.
+#![tactic(auto)]
+
 mod access;
 mod answer;
 mod input;

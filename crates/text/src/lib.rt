@@ -1,4 +1,6 @@
 // The text that the placement program prints, and parts of texts for others.
+#![tactic(auto)]
+
 mod lines;
 mod numeral;
 mod shown;

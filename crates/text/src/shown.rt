@@ -9,7 +9,7 @@ use declaration::DeclarationAnswer;
 use placement::KEY_COUNT;
 
 // Slot s of function f has the key f * 6 + s, and an empty range where it has no BAR.
-#[derive(Drop)]
+#[derive(Clone, Copy)]
 pub struct Shown {
     pub answer: DeclarationAnswer,
     pub aperture: Aperture,

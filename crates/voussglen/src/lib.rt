@@ -1,4 +1,6 @@
 // What a hypervisor links: a bus that the caller lends, and questions and answers as plain structs. include/voussglen.h says the same for C.
+#![tactic(auto)]
+
 mod lookups;
 mod reads;
 mod reports;

@@ -67,7 +67,7 @@ fn body_of(answer: ReadAnswer, told: Snapshot, held: Snapshot) -> Snapshot
     }
 }
 
-#[derive(Drop)]
+#[derive(Clone, Copy)]
 pub struct ReadStep {
     pub result: ReadResult,
     pub body: Snapshot,

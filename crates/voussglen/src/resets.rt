@@ -16,7 +16,7 @@ fn result_of(answer: BusResetAnswer) -> ResetResult
     }
 }
 
-#[derive(Drop)]
+#[derive(Clone, Copy)]
 pub struct ResetStep {
     pub result: ResetResult,
     pub bus: Bus,

@@ -27,7 +27,7 @@ pub const KIND_MISS: u8 = 9;
 
 // The effect that an access is inside: its capability's id, its region, and the access's offset from the capability's start and from the region's own.
 #[repr(C)]
-#[derive(Drop)]
+#[derive(Clone, Copy)]
 pub struct EffectTold {
     pub capability_id: u8,
     pub region: PlacedEffect,
@@ -37,7 +37,7 @@ pub struct EffectTold {
 
 // `width` bytes at `offset` of a device.
 #[repr(C)]
-#[derive(Drop)]
+#[derive(Clone, Copy)]
 pub struct ReadAsk {
     pub device: usize,
     pub offset: usize,
@@ -46,7 +46,7 @@ pub struct ReadAsk {
 
 // Refused, a value, or an effect.
 #[repr(C)]
-#[derive(Drop)]
+#[derive(Clone, Copy)]
 pub struct ReadResult {
     pub kind: u8,
     pub refusal: u8,
@@ -56,7 +56,7 @@ pub struct ReadResult {
 
 // `width` bytes of `value` at `offset` of a device.
 #[repr(C)]
-#[derive(Drop)]
+#[derive(Clone, Copy)]
 pub struct WriteAsk {
     pub device: usize,
     pub offset: usize,
@@ -66,7 +66,7 @@ pub struct WriteAsk {
 
 // Refused (20 with the device), stored, dropped, probing, moved or kept (with the slot and the committed address), or an effect.
 #[repr(C)]
-#[derive(Drop)]
+#[derive(Clone, Copy)]
 pub struct WriteResult {
     pub kind: u8,
     pub refusal: u8,
@@ -78,7 +78,7 @@ pub struct WriteResult {
 
 // `width` bytes at a memory address.
 #[repr(C)]
-#[derive(Drop)]
+#[derive(Clone, Copy)]
 pub struct LookupAsk {
     pub address: u64,
     pub width: usize,
@@ -86,7 +86,7 @@ pub struct LookupAsk {
 
 // Refused, a hit with device, slot and offset, or a miss.
 #[repr(C)]
-#[derive(Drop)]
+#[derive(Clone, Copy)]
 pub struct LookupResult {
     pub kind: u8,
     pub refusal: u8,
@@ -97,7 +97,7 @@ pub struct LookupResult {
 
 // 20 with the lowest device whose revision stayed, or 0.
 #[repr(C)]
-#[derive(Drop)]
+#[derive(Clone, Copy)]
 pub struct ResetResult {
     pub refusal: u8,
     pub device: u8,
@@ -105,7 +105,7 @@ pub struct ResetResult {
 
 // A refusal's place: an offset of the file where `in_file` says so, else a device and an index.
 #[repr(C)]
-#[derive(Drop)]
+#[derive(Clone, Copy)]
 pub struct StartResult {
     pub refusal: u8,
     pub in_file: bool,

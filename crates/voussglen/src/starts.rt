@@ -43,7 +43,7 @@ fn result_of(answer: DeclarationAnswer) -> StartResult
     }
 }
 
-#[derive(Drop)]
+#[derive(Clone, Copy)]
 pub struct StartStep {
     pub result: StartResult,
     pub bus: Bus,

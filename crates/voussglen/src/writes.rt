@@ -86,7 +86,7 @@ fn body_of(answer: BusWriteAnswer, told: Snapshot, held: Snapshot) -> Snapshot
     }
 }
 
-#[derive(Drop)]
+#[derive(Clone, Copy)]
 pub struct WriteStep {
     pub result: WriteResult,
     pub body: Snapshot,

@@ -1,4 +1,6 @@
 // Little-endian numbers in bytes, the store of bytes under a write mask, and intervals.
+#![tactic(auto)]
+
 mod bounds;
 mod interval;
 mod masked;

@@ -1,0 +1,66 @@
+use Prim.Native.Nat.{◌-◌, ◌<◌, min}
+use mathlib.Core.Path.{◌≡◌, ap, ◌∙◌}
+use borrow.Author.Rules.{rules}
+use native.Mathlib.Omega.{arith}
+use lib.ListN.{length}
+use Rattle.address.specs.Limits.{function_room}
+use Rattle.config.specs.declared.function.Function.{Function}
+use Rattle.word.proofs.Mapped.{long_unmapped}
+use Rattle.word.proofs.Tables.{blank_filled, filled_more, get_or_inside}
+use Rattle.declaration.specs.Blank.{no_function}
+use Rattle.bus.specs.Bus.{no_function_state}
+use Rattle.bus.specs.Start.{declared_function, function_start, functions_of}
+use Rattle.bus.proofs.Fills.{filled_cut}
+use Rattle.bus.proofs.power_up.functions_of.Goals as goal
+use Rattle.bus.proofs.power_up.functions_of.Goals.{Start}
+
+long : (c : Start) → length c.args.declaration.functions ≡ function_room
+long c = search (rules, long_unmapped)
+
+pub loop-k-init : goal.loop-k-init
+loop-k-init c =
+    let a = c.args in
+    (omega arith, c.at_most-count.ensures, rw c.no_function_state-none.ensures (blank_filled function_room (λ j. function_start (declared_function a.t1 j) a.addresses j) no_function_state))
+
+pub offset_bounds-declaration-k : goal.offset_bounds-declaration-k
+offset_bounds-declaration-k c = omega (arith, c.loop-k.invariant.1)
+
+pub bounds-declaration-k : goal.bounds-declaration-k
+bounds-declaration-k c = omega (arith, c.loop-k.invariant.1)
+
+pub function_start-state-requires : goal.function_start-state-requires
+function_start-state-requires c = omega (arith, c.loop-k.invariant.1)
+
+pub offset_bounds-functions-k : goal.offset_bounds-functions-k
+offset_bounds-functions-k c = omega (arith, c.loop-k.invariant.1)
+
+pub bounds-functions-k : goal.bounds-functions-k
+bounds-functions-k c = omega (arith, c.loop-k.invariant.1)
+
+pub overflow_add-k : goal.overflow_add-k
+overflow_add-k c = omega (arith, c.loop-k.invariant.1)
+
+pub loop-k-smaller : goal.loop-k-smaller
+loop-k-smaller c = omega arith
+
+pub loop-k-preserved : goal.loop-k-preserved
+loop-k-preserved c =
+    let l = c.loop-k in
+    let a = c.args in
+    let d = a.t1 in
+    let m : l.k < function_room = omega (arith, l.invariant.1, c.loop-k-test.true) in
+    let h : l.k < length d.functions = omega (arith, long (goal.at.loop-k-preserved c).Start) in (
+      omega arith,
+      l.invariant.1,
+      rw l.invariant.2
+          (filled_more function_room (λ j. function_start (declared_function d j) a.addresses j) no_function_state l.k c.function_start-state.result m
+          (c.function_start-state.ensures ∙ ap (λ (f : Function). function_start f a.addresses l.k) (get_or_inside d.functions l.k _ no_function h))),
+    )
+
+pub returns : goal.returns
+unfolding functions_of
+returns c =
+    let l = c.loop-k in
+    let a = c.args in
+    let e : l.k ≡ min a.t1.count function_room = omega (arith, l.invariant.1) in
+    l.invariant.2 ∙ rw e (filled_cut function_room a.t1.count (λ j. function_start (declared_function a.t1 j) a.addresses j) no_function_state)

@@ -1,0 +1,12 @@
+-- `overlaps_earlier`: none of the first i effects overlaps.
+use Prim.Native.Nat.{◌-◌, ◌≤◌}
+use mathlib.Core.Bool.{false}
+use mathlib.Core.Path.{◌≡◌}
+use Rattle.capability.specs.BadEffect.{overlaps_earlier}
+use Rattle.capability.proofs.adding.overlaps_earlier.Given as goal
+
+abbrev pub invariant-loop-i : goal.invariant-loop-i
+invariant-loop-i l = (l.i ≤ l.count) × (overlaps_earlier l.effects l.i l.capability l.offset l.length ≡ false)
+
+abbrev pub decreases-loop-i : goal.decreases-loop-i
+decreases-loop-i l = l.count - l.i

@@ -1,0 +1,35 @@
+use Prim.Native.Nat.{◌-◌}
+use mathlib.Core.Path.{◌≡◌, sym, ap, ◌∙◌}
+use native.Mathlib.Omega.{arith}
+use borrow.Author.Count.{falls}
+use borrow.Author.Rules.{rules}
+use Rattle.capability.specs.Declaration.{length_at}
+use Rattle.capability.specs.Offset.{next_multiple, capability_end, offset_at, end_at}
+use Rattle.capability.proofs.Offsets.{next_near, offset_first, offset_next}
+use Rattle.capability.proofs.declared.Capabilities.next_start.Goals as goal
+
+pub loop-i-init : goal.loop-i-init
+loop-i-init c = (search rules, search rules, sym (offset_first _))
+
+pub next_offset-start-requires : goal.next_offset-start-requires
+next_offset-start-requires c = omega (arith, c.declared_count-count.ensures)
+
+pub loop-i-smaller : goal.loop-i-smaller
+loop-i-smaller c = falls _ _ c.loop-i-test.true
+
+pub loop-i-preserved : goal.loop-i-preserved
+loop-i-preserved c =
+    let d = c.args.self in
+    let l = c.loop-i in
+    let ends : capability_end l.start c.length_at.result ≡ end_at (length_at d) l.i = rw (l.invariant.2, c.length_at.ensures) in (
+      omega arith,
+      omega (arith, c.next_offset-start.ensures, next_near (capability_end l.start c.length_at.result)),
+      c.next_offset-start.ensures ∙ ap next_multiple ends ∙ sym (offset_next (length_at d) l.i),
+    )
+
+pub returns : goal.returns
+returns c =
+    let l = c.loop-i in
+    let n = c.declared_count-count in
+    let e : l.i ≡ n.result = omega arith in
+    (l.invariant.2 ∙ ap (offset_at (length_at c.args.self)) (e ∙ n.ensures), omega (arith, n.ensures))

@@ -1,0 +1,53 @@
+use Prim.Native.Nat.{◌≤◌, ◌<◌, ◌-◌}
+use mathlib.Core.Bool.{false}
+use mathlib.Core.Path.{◌≡◌, sym, subst, ◌∙◌}
+use native.Mathlib.Omega.{arith}
+use borrow.Author.Count.{below_more}
+use borrow.Author.Rules.{rules}
+use borrow.Author.Tests.{lt-ltb, le-ltb}
+use lib.ListN.{length}
+use Rattle.address.specs.Limits.{function_room}
+use Rattle.word.proofs.Mapped.{long_unmapped}
+use Rattle.word.proofs.Tables.{get_or_inside}
+use Rattle.word.proofs.Searches.{least_at, least_none}
+use Rattle.config.specs.declared.function.Function.{Function}
+use Rattle.declaration.specs.Blank.{no_function}
+use Rattle.declaration.proofs.finished.Finished.place_in.Goals as goal
+use Rattle.declaration.proofs.finished.Finished.place_in.Goals.{Start}
+
+long : (c : Start) → length c.args.self.functions ≡ function_room
+long c = search (rules, long_unmapped)
+
+pub loop-k-init : goal.loop-k-init
+loop-k-init c = (omega arith, λ j h. absurd (omega arith))
+
+pub offset_bounds-self-k : goal.offset_bounds-self-k
+offset_bounds-self-k c = omega (arith, long (goal.at.offset_bounds-self-k c).Start)
+
+pub bounds-self-k : goal.bounds-self-k
+bounds-self-k c = omega (arith, long (goal.at.bounds-self-k c).Start)
+
+pub returns-then-device-function : goal.returns-then-device-function
+returns-then-device-function c =
+    let a = c.args in
+    let l = c.loop-k in
+    let h : l.k < length a.t1.functions = omega (arith, long (goal.at.returns-then-device-function c).Start) in
+    sym (least_at _ _ _ c.loop-k-test.true (lt-ltb _ _ (subst (λ (x : Function). a.device < x.device) (get_or_inside a.t1.functions l.k _ no_function h) c.if-device-function.true)) l.invariant.1)
+
+pub overflow_add-k : goal.overflow_add-k
+overflow_add-k c = omega arith
+
+pub loop-k-smaller : goal.loop-k-smaller
+loop-k-smaller c = omega arith
+
+pub loop-k-preserved : goal.loop-k-preserved
+loop-k-preserved c =
+    let a = c.args in
+    let l = c.loop-k in
+    let h : l.k < length a.t1.functions = omega (arith, long (goal.at.loop-k-preserved c).Start) in
+    (omega arith, below_more _ _ l.invariant.1 (le-ltb _ _ (subst (λ (x : Function). x.device ≤ a.device) (get_or_inside a.t1.functions l.k _ no_function h) c.if-device-function.false)))
+
+pub returns : goal.returns
+returns c = let l = c.loop-k in
+    let e : l.k ≡ c.args.self.count = omega (arith, l.invariant.0) in
+    e ∙ sym (least_none _ _ (rw e at l.invariant.1))

@@ -1,0 +1,7 @@
+-- `ask_dword` is a read of four bytes.
+use Rattle.enumeration.specs.Enumerate.{asked}
+use Rattle.enumeration.proofs.asked.ask_dword.Goals as goal
+
+pub returns : goal.returns
+unfolding asked
+returns c = rw (c.number_of.ensures, c.read-reply.ensures)

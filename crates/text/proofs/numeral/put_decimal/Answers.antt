@@ -1,0 +1,23 @@
+-- `put_decimal`: as many digits as the definition says, since no fewer hold the number.
+use mathlib.Core.Path.{◌∙◌}
+use native.Mathlib.Omega.{arith}
+use borrow.Author.Rules.{rules}
+use Rattle.text.specs.Numeral.{decimal_of}
+use Rattle.text.proofs.Numerals.{decimal_few, decimal_places}
+use Rattle.text.proofs.numeral.put_decimal.Goals as goal
+
+pub put_bytes-requires : goal.put_bytes-requires
+put_bytes-requires c =
+    let d = c.decimal-count in
+    let few = decimal_few c.args.value d.result d.ensures.1.0 (search rules) in
+    omega (arith, d.ensures.0.1)
+
+pub returns : goal.returns
+unfolding decimal_of
+returns c =
+    let a = c.args in
+    let d = c.decimal-count in
+    let few = decimal_few a.value d.result d.ensures.1.0 (search rules) in
+    let e = decimal_places a.value d.result d.ensures.1.0 (search rules) in
+    let p = c.put_bytes.ensures in
+    (omega (arith, p.0, d.ensures.0.1, few), p.1 ∙ rw (d.ensures.1.1, e))

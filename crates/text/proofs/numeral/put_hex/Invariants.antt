@@ -1,0 +1,14 @@
+-- `put_hex` writes the digits from the last to the first: those of what is left of the number, with those that stand, are the whole.
+use Prim.Native.Nat.{◌+◌, ◌-◌, ◌≤◌}
+use mathlib.Core.List.{◌++◌}
+use mathlib.Core.Path.{◌≡◌}
+use lib.ListN.{length, take, drop}
+use Rattle.io.specs.Digits.{last_digits}
+use Rattle.text.specs.Numeral.{hex_of}
+use Rattle.text.proofs.numeral.put_hex.Given as goal
+
+abbrev pub invariant-loop-i : goal.invariant-loop-i
+invariant-loop-i l = (l.at ≤ l.i) × (l.i ≤ l.end) × (l.end ≡ l.at + l.count) × (l.end ≤ length l.initial.text) × (length l.text ≡ length l.initial.text) × (take l.at l.text ≡ take l.at l.initial.text) × (last_digits 16 (l.i - l.at) l.rest ++ drop l.i (take l.end l.text) ≡ hex_of l.count l.value)
+
+abbrev pub decreases-loop-i : goal.decreases-loop-i
+decreases-loop-i l = l.i - l.at

@@ -1,0 +1,19 @@
+-- `write_hex` writes where there is room.
+use native.Mathlib.Omega.{arith}
+use Rattle.text.specs.Numeral.{hex_of}
+use Rattle.text.proofs.Rooms.{room_there, room_not, written_there, written_not}
+use Rattle.text.proofs.written.write_hex.Goals as goal
+
+pub put_hex-requires : goal.put_hex-requires
+put_hex-requires c = room_there _ _ _ c.has_room-free.ensures c.if-free.true
+
+pub returns-then-free : goal.returns-then-free
+returns-then-free c =
+    let a = c.args in
+    let put = c.put_hex.ensures in
+    written_there a.text.now a.at a.count (hex_of a.count a.value) _ _ (room_there _ _ _ c.has_room-free.ensures c.if-free.true) (omega (arith, put.0)) put.1
+
+pub returns : goal.returns
+returns c =
+    let a = c.args in
+    written_not a.text.now a.at a.count (hex_of a.count a.value) (room_not _ _ _ c.has_room-free.ensures c.if-free.false)

@@ -1,0 +1,5 @@
+-- `plain` blanks what an effect would tell.
+use Rattle.voussglen.proofs.reads.plain.Goals as goal
+
+pub returns : goal.returns
+returns c = rw c.no_effect.ensures
