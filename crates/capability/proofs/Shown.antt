@@ -17,9 +17,9 @@ use Rattle.capability.specs.declared.layout.LayoutAnswer.{LayoutAnswer}
 use Rattle.capability.specs.declared.layout.LayoutAnswer.TheVariants as layout_answer
 
 module _ (space : ℕ) (d : Capabilities) where
-  pub layout_answer : (layout_of space d).answer ≡ answer_of space d
+  pub layout_answer_lem : (layout_of space d).answer ≡ answer_of space d
   unfolding layout_of
-  layout_answer = refl
+  layout_answer_lem = refl
 
   shown_by : (a : LayoutAnswer) → answer_of space d ≡ a → (layout_of space d).placed ≡ placed_for d a
   unfolding layout_of

@@ -86,7 +86,7 @@ module _ (aperture : Aperture) (bars : List MemoryBar) (s : Placing) (P : Placin
       let n = next_is bars s.placed x f.1 in
       let auto = waits_auto bars s.placed x n.1.here in
       let full = waits_size bars s.placed x n.1.here in
-      subst P (sym (auto_next aperture bars s x e f.1)) (fitted_cases (lowest_of aperture bar.size s.placed) x bar.size (lowest_is aperture bar.size s.placed) (λ a l. given x a e n.0 n.1 (given_auto aperture bar s.placed a auto full l)) (λ l. refused x e n.0 n.1 (row17 (record { automatic = auto; there = full; no_place_lem = l })))))
+      subst P (sym (auto_next aperture bars s x e f.1)) (fitted_cases (lowest_of aperture bar.size s.placed) x bar.size (lowest_is aperture bar.size s.placed) (λ a l. given x a e n.0 n.1 (given_auto aperture bar s.placed a auto full l)) (λ l. refused x e n.0 n.1 (row17 (record { automatic = auto; there = full; no_place = l })))))
       (by_next (next_of bars s.placed)))
       (λ e. subst P (sym (auto_refused aperture bars s e.0 e.1 e.2)) (idle (λ v. absurd (stopped s.verdict e.0 e.1 v e.2))))
       (by_verdict s.verdict)

@@ -39,7 +39,7 @@ pub record Row16 (aperture : Aperture) (bar : MemoryBar) (placed : List Range) :
 pub record Row17 (aperture : Aperture) (bar : MemoryBar) (placed : List Range) : Type 0 where
   pub automatic : bar.request ≡ Auto
   pub there : 0 < bar.size
-  pub no_place_lem : (b : ℕ) → is_place aperture bar.size placed b ≡ false
+  pub no_place : (b : ℕ) → is_place aperture bar.size placed b ≡ false
 
 -- the row of a number
 pub data Row (aperture : Aperture) (bar : MemoryBar) (placed : List Range) : ℕ → Type 0 where

@@ -20,6 +20,7 @@ loop-k-init c = (omega arith, sym (reset_none _))
 pub loop-k-preserved : goal.loop-k-preserved
 loop-k-preserved c =
     let l = c.loop-k in
+    
     (omega arith, reset_more _ l.k l.out _ _ (omega (arith, long (goal.at.loop-k-preserved c).Start)) l.invariant.1 (ap (λ (d : ResetDone). d.state) c.reset-done.ensures ∙ reset_state _))
 
 pub returns : goal.returns

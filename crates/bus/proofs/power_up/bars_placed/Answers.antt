@@ -11,7 +11,7 @@ use Rattle.bus.proofs.power_up.bars_placed.Goals.{After-new-state}
 pub loop-i-init : goal.loop-i-init
 loop-i-init c =
     let a = c.args in
-    (omega arith, rw c.none-none.ensures (blank_filled bar_count (λ j. fresh (plan_at a.t1 a.t2 a.k j)) no_state))
+    (omega arith, rw c.none-none.ensures (blank_filled bar_count (λ j. fresh (plan_at a.function a.addresses a.k j)) no_state))
 
 pub offset_bounds-function-i : goal.offset_bounds-function-i
 offset_bounds-function-i c = omega arith
@@ -47,7 +47,7 @@ pub loop-i-smaller : goal.loop-i-smaller
 loop-i-smaller c = omega arith
 
 -- the BAR that a turn of the loop makes
-made : (c : After-new-state) → let a = c.args in c.new-state.result ≡ fresh (plan_at a.t1 a.t2 a.k c.loop-i.i)
+made : (c : After-new-state) → let a = c.args in c.new-state.result ≡ fresh (plan_at a.function a.addresses a.k c.loop-i.i)
 made c = rw (c.new-state.ensures, c.size.ensures, c.slot_at.ensures)
 
 pub loop-i-preserved : goal.loop-i-preserved
@@ -56,7 +56,7 @@ loop-i-preserved c =
     let a = c.args in (
       omega arith,
       rw l.invariant.1
-          (filled_more bar_count (λ j. fresh (plan_at a.t1 a.t2 a.k j)) no_state l.i c.new-state.result (omega arith) (made (goal.at.loop-i-preserved c).After-new-state)),
+          (filled_more bar_count (λ j. fresh (plan_at a.function a.addresses a.k j)) no_state l.i c.new-state.result (omega arith) (made (goal.at.loop-i-preserved c).After-new-state)),
     )
 
 pub returns : goal.returns
@@ -65,4 +65,4 @@ returns c =
     let l = c.loop-i in
     let a = c.args in
     let e : l.i ≡ bar_count = omega arith in
-    l.invariant.1 ∙ rw e (filled_all bar_count (λ j. fresh (plan_at a.t1 a.t2 a.k j)) no_state)
+    l.invariant.1 ∙ rw e (filled_all bar_count (λ j. fresh (plan_at a.function a.addresses a.k j)) no_state)

@@ -20,7 +20,7 @@ long c = search (rules, long_unmapped)
 pub loop-k-init : goal.loop-k-init
 loop-k-init c =
     let a = c.args in
-    (omega arith, c.at_most-count.ensures, rw c.no_function_state-none.ensures (blank_filled function_room (λ j. function_start (declared_function a.t1 j) a.addresses j) no_function_state))
+    (omega arith, c.at_most-count.ensures, rw c.no_function_state-none.ensures (blank_filled function_room (λ j. function_start (declared_function a.declaration j) a.addresses j) no_function_state))
 
 pub offset_bounds-declaration-k : goal.offset_bounds-declaration-k
 offset_bounds-declaration-k c = omega (arith, c.loop-k.invariant.1)
@@ -47,7 +47,7 @@ pub loop-k-preserved : goal.loop-k-preserved
 loop-k-preserved c =
     let l = c.loop-k in
     let a = c.args in
-    let d = a.t1 in
+    let d = a.declaration in
     let m : l.k < function_room = omega (arith, l.invariant.1, c.loop-k-test.true) in
     let h : l.k < length d.functions = omega (arith, long (goal.at.loop-k-preserved c).Start) in (
       omega arith,
@@ -62,5 +62,5 @@ unfolding functions_of
 returns c =
     let l = c.loop-k in
     let a = c.args in
-    let e : l.k ≡ min a.t1.count function_room = omega (arith, l.invariant.1) in
-    l.invariant.2 ∙ rw e (filled_cut function_room a.t1.count (λ j. function_start (declared_function a.t1 j) a.addresses j) no_function_state)
+    let e : l.k ≡ min a.declaration.count function_room = omega (arith, l.invariant.1) in
+    l.invariant.2 ∙ rw e (filled_cut function_room a.declaration.count (λ j. function_start (declared_function a.declaration j) a.addresses j) no_function_state)

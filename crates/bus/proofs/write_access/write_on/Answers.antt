@@ -16,12 +16,13 @@ long : (c : Start) → length c.args.bus.functions ≡ function_room
 long c = search (rules, long_unmapped)
 
 -- the definition, on what the step gave
-as_stepped : (c : After-write-step) → let a = c.args in let d = c.write-step.result in written_on a.t1 a.k a.offset a.width a.value ≡ stepped_on a.t1 a.k d.state d.reply.body d.reply.answer
+as_stepped : (c : After-write-step) → let a = c.args in let d = c.write-step.result in written_on a.bus a.k a.offset a.width a.value ≡ stepped_on a.bus a.k d.state d.reply.body d.reply.answer
 unfolding written_on
-as_stepped c = rw (c.write-step.ensures, function_there c.args.bus c.args.k (long s) (omega arith))
+as_stepped c = rw (c.write-step.ensures, function_there c.args.bus c.args.k (long c.before.before) (omega arith))
 
 pub settle-requires : goal.settle-requires
 settle-requires c =
+    
     (search rules, candidate_slot _ _ _ _ _ _ (ap (λ (d : WriteDone). d.reply.answer) (sym c.write-step.ensures) ∙ c.in-Candidate.is))
 
 pub returns-in-Stored : goal.returns-in-Stored

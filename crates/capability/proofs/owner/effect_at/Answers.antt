@@ -16,10 +16,10 @@ long : (c : Start) → length c.args.placed.effects ≡ effect_room
 long c = search (rules, long_unmapped)
 
 -- the index is below the count and in the array
-within : (c : Then-i-effect_count) → let a = c.args in (a.i < a.t1.effect_count) × (a.i < effect_room)
+within : (c : Then-i-effect_count) → let a = c.args in (a.i < a.placed.effect_count) × (a.i < effect_room)
 within c =
     let a = c.args in
-    let l = length-take a.t1.effect_count a.t1.effects in
+    let l = length-take a.placed.effect_count a.placed.effects in
     (omega (arith, c.if-i-effect_count.true, c.effect_count.ensures, l), omega (arith, c.if-i-effect_count.true, c.effect_count.ensures, l, long c.before.before))
 
 pub offset_bounds-placed-i : goal.offset_bounds-placed-i

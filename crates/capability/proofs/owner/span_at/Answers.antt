@@ -17,10 +17,10 @@ long : (c : Start) → length c.args.placed.capabilities ≡ capability_room
 long c = search (rules, long_unmapped)
 
 -- the index is below the count and in the array
-within : (c : Then-i-capability_count) → let a = c.args in (a.i < a.t1.count) × (a.i < capability_room)
+within : (c : Then-i-capability_count) → let a = c.args in (a.i < a.placed.count) × (a.i < capability_room)
 within c =
     let a = c.args in
-    let l = length-take a.t1.count a.t1.capabilities in
+    let l = length-take a.placed.count a.placed.capabilities in
     (omega (arith, c.if-i-capability_count.true, c.capability_count.ensures, l), omega (arith, c.if-i-capability_count.true, c.capability_count.ensures, l, long c.before.before))
 
 pub offset_bounds-placed-i : goal.offset_bounds-placed-i

@@ -37,3 +37,11 @@ returns-else-from_live c =
 
 pub returns-else-found : goal.returns-else-found
 returns-else-found c = sym (shown_none _ _ _ _ _ _ (sym c.has_view-found.ensures ∙ c.if-found.false))
+
+pub slice_bounds-result-end : goal.slice_bounds-result-end
+slice_bounds-result-end c =
+    let k = (goal.at.slice_bounds-result-end c).After-body_length in omega (arith, (reaches k).0, (reaches k).1)
+
+pub slice_bounds-result-end-else-from_live : goal.slice_bounds-result-end-else-from_live
+slice_bounds-result-end-else-from_live c =
+    let k = (goal.at.slice_bounds-result-end-else-from_live c).After-body_length in omega (arith, (reaches k).0, (reaches k).1)

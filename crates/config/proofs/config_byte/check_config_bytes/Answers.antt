@@ -1,6 +1,7 @@
 use Prim.Native.Nat.{◌-◌}
 use mathlib.Core.Bool.{false}
-use mathlib.Core.Path.{◌≡◌, sym}
+use mathlib.Core.Bool.{not}
+use mathlib.Core.Path.{ap, ◌≡◌, sym}
 use native.Mathlib.Omega.{arith}
 use borrow.Author.Rules.{rules}
 use lib.ListN.{length}
@@ -25,7 +26,7 @@ bounds-contents-i c = omega (arith, long (goal.at.bounds-contents-i c).Start)
 
 pub returns-then-not-good : goal.returns-then-not-good
 returns-then-not-good c = let l = c.loop-i in
-    sym (check_bad _ _ _ _ (omega (arith, l.invariant.1, c.loop-i-test.true)) l.invariant.2 (rw (← c.byte_ok-good.ensures) c.if-not-good.true))
+    sym (check_bad _ _ _ _ (omega (arith, l.invariant.1, c.loop-i-test.true)) l.invariant.2 (rw (← c.byte_ok-good.ensures) (ap not c.if-not-good.true)))
 
 pub overflow_add-i : goal.overflow_add-i
 overflow_add-i c = omega arith
@@ -35,7 +36,7 @@ loop-i-smaller c = omega arith
 
 pub loop-i-preserved : goal.loop-i-preserved
 loop-i-preserved c = let l = c.loop-i in
-    (omega arith, l.invariant.1, any_more _ _ l.invariant.2 (rw (← c.byte_ok-good.ensures) c.if-not-good.false))
+    (omega arith, l.invariant.1, any_more _ _ l.invariant.2 (rw (← c.byte_ok-good.ensures) (ap not c.if-not-good.false)))
 
 pub returns : goal.returns
 returns c = let l = c.loop-i in

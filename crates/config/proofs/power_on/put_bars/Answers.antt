@@ -29,9 +29,10 @@ loop-slot-smaller c = omega arith
 
 pub loop-slot-preserved : goal.loop-slot-preserved
 loop-slot-preserved c =
+    
     let l = c.loop-slot in
     let a = c.args in
-    let e = c.put_bar.ensures ∙ laid_next (λ i. bar_field (bar_at a.t2 i) i) a.image.now l.image l.slot l.invariant.1 in
+    let e = c.put_bar.ensures ∙ laid_next (λ i. bar_field (bar_at a.bars i) i) a.image.now l.image l.slot l.invariant.1 in
     (omega arith, e, ap length e ∙ laid_length _ _)
 
 pub shape_of-image : goal.shape_of-image

@@ -29,11 +29,14 @@ loop-i-smaller c = omega arith
 
 pub loop-i-preserved : goal.loop-i-preserved
 loop-i-preserved c =
+    
+    
+    
     let l = c.loop-i in
     let a = c.args in
-    let e : c.put_body.new.0 ≡ laid a.image.now (capability_fields a.placed a.bodies.now (l.i + 1)) =
+    let e : c.put_body.new.image ≡ laid a.image.now (capability_fields a.placed a.bodies.now (l.i + 1)) =
     rw (c.put_body.ensures, c.put_header.ensures, laid_append) (laid_next (λ i. header_fields a.placed i ++ (body_field a.placed a.bodies.now i ∷ [])) a.image.now l.image l.i l.invariant.2) in
-    let f : c.put_body-in-loop-i.new.0 ≡ laid a.mask.now (capability_masks a.placed a.masks.now (l.i + 1)) =
+    let f : c.put_body-in-loop-i.new.image ≡ laid a.mask.now (capability_masks a.placed a.masks.now (l.i + 1)) =
     c.put_body-in-loop-i.ensures ∙ laid_next (λ i. body_field a.placed a.masks.now i ∷ []) a.mask.now l.mask l.i l.invariant.3 in
     (omega arith, l.invariant.1, e, f, ap length e ∙ laid_length _ _, ap length f ∙ laid_length _ _)
 

@@ -34,11 +34,13 @@ loop-i-smaller c = omega arith
 
 pub loop-i-preserved : goal.loop-i-preserved
 loop-i-preserved c =
+    
+    
     let l = c.loop-i in
     let a = c.args in
     let o = c.value-at.ensures in
-    let e : c.put_byte.new.0 ≡ laid a.image.now (byte_values a.t3 (l.i + 1)) = c.put_byte.ensures ∙ rw o (laid_next (λ i. config_field (λ b. b.value) (get_or a.t3.bytes i no_config_byte) ∷ []) a.image.now l.image l.i l.invariant.2) in
-    let f : c.put_byte-in-loop-i.new.0 ≡ laid a.mask.now (byte_masks a.t3 (l.i + 1)) = c.put_byte-in-loop-i.ensures ∙ rw o (laid_next (λ i. config_field (λ b. b.mask) (get_or a.t3.bytes i no_config_byte) ∷ []) a.mask.now l.mask l.i l.invariant.3) in
+    let e : c.put_byte.new.image ≡ laid a.image.now (byte_values a.contents (l.i + 1)) = c.put_byte.ensures ∙ rw o (laid_next (λ i. config_field (λ b. b.value) (get_or a.contents.bytes i no_config_byte) ∷ []) a.image.now l.image l.i l.invariant.2) in
+    let f : c.put_byte-in-loop-i.new.image ≡ laid a.mask.now (byte_masks a.contents (l.i + 1)) = c.put_byte-in-loop-i.ensures ∙ rw o (laid_next (λ i. config_field (λ b. b.mask) (get_or a.contents.bytes i no_config_byte) ∷ []) a.mask.now l.mask l.i l.invariant.3) in
     (omega arith, l.invariant.1, e, f, ap length e ∙ laid_length _ _, ap length f ∙ laid_length _ _)
 
 pub shape_of-image : goal.shape_of-image

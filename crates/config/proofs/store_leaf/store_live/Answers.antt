@@ -7,8 +7,8 @@ use Rattle.config.proofs.store_leaf.store_live.Goals as goal
 use Rattle.config.proofs.store_leaf.store_live.Goals.{After-command_after-new}
 
 -- the two commands that are compared are those of the image and of the store
-differs : (k : After-command_after-new) → (c.command_of-old.result ≡ c.command_after-new.result → ⊥) → let a = c.args in watched a.live.now ≡ watched (stored a.mask.now a.live.now a.offset a.width a.value) → ⊥
-differs k h e = h (c.command_of-old.ensures ∙ e ∙ sym c.command_after-new.ensures)
+differs : (k : After-command_after-new) → (k.command_of-old.result ≡ k.command_after-new.result → ⊥) → let a = k.args in watched a.live.now ≡ watched (stored a.mask.now a.live.now a.offset a.width a.value) → ⊥
+differs k h e = h (k.command_of-old.ensures ∙ e ∙ sym k.command_after-new.ensures)
 
 pub returns-then-old-new : goal.returns-then-old-new
 returns-then-old-new c =
@@ -17,8 +17,10 @@ returns-then-old-new c =
 
 pub returns-then-n : goal.returns-then-n
 returns-then-n c =
+    
     (rw (is_exhausted _ _ _ (differs (goal.at.returns-then-n c).After-command_after-new c.if-old-new.false) c.if-n.true), refl, refl)
 
 pub returns : goal.returns
 returns c =
+    
     (rw (room_not_exhausted _ (stored _ _ _ _ _) _ c.if-n.false), c.store-2.ensures, sym (next_revision _ _ _ (differs (goal.at.returns c).After-command_after-new c.if-old-new.false)))

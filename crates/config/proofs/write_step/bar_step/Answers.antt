@@ -9,8 +9,8 @@ use Rattle.config.proofs.write_step.bar_step.Goals as goal
 use Rattle.config.proofs.write_step.bar_step.Goals.{After-write}
 
 -- what the BAR answered is what the definition asks
-asked : (k : After-write) → let a = c.args in c.write.result ≡ asks (bar_at a.state.bars (slot_at a.offset)) (a.offset % bar_register_size) a.width a.value
-asked k = c.write.ensures ∙ rw (c.bar_at-bar.ensures, c.slot_at-i.ensures)
+asked : (k : After-write) → let a = k.args in k.write.result ≡ asks (bar_at a.state.bars (slot_at a.offset)) (a.offset % bar_register_size) a.width a.value
+asked k = k.write.ensures ∙ rw (k.bar_at-bar.ensures, k.slot_at-i.ensures)
 
 pub returns-in-Probe : goal.returns-in-Probe
 returns-in-Probe c = let a = c.args in

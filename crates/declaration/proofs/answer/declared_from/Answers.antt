@@ -1,5 +1,5 @@
 -- `declared_from`: a refused field first, then a missing aperture, then the checks of the whole.
-use borrow.Author.Tests.{eq-eqb, ne_eqb, not-true, not-false}
+use borrow.Author.Tests.{eq-eqb, ne_eqb}
 use Rattle.declaration.specs.Answer.{declared_from}
 use Rattle.declaration.proofs.answer.declared_from.Goals as goal
 
@@ -9,9 +9,9 @@ returns-then-reading-ne-ACCEPTED c = rw (c.refused_with.ensures, ne_eqb _ _ c.if
 
 pub returns-then-not-placed : goal.returns-then-not-placed
 unfolding declared_from
-returns-then-not-placed c = rw (c.refused_with-then-not-placed.ensures, eq-eqb _ _ c.if-reading-ne-ACCEPTED.false, not-true c.args.reading.now.has_aperture c.if-not-placed.true)
+returns-then-not-placed c = rw (c.refused_with-then-not-placed.ensures, eq-eqb _ _ c.if-reading-ne-ACCEPTED.false, c.if-not-placed.true)
 
 pub returns : goal.returns
 unfolding declared_from
 returns c =
-    rw (c.checked_whole.ensures, c.with_latest.ensures, eq-eqb _ _ c.if-reading-ne-ACCEPTED.false, not-false c.args.reading.now.has_aperture c.if-not-placed.false)
+    rw (c.checked_whole.ensures, c.with_latest.ensures, eq-eqb _ _ c.if-reading-ne-ACCEPTED.false, c.if-not-placed.false)

@@ -36,9 +36,9 @@ pub loop-k-preserved : goal.loop-k-preserved
 loop-k-preserved c =
     let l = c.loop-k in
     let a = c.args in
-    let h : length a.t1 ≡ function_room = long (goal.at.loop-k-preserved c).Start in
-    let n : l.k - 1 < length a.t1 = omega arith in
-    (omega arith, omega arith, rw l.invariant.2 (moved_more no_function a.t1 l.k (l.k - 1) _ (omega arith) (omega arith) (get_or_inside a.t1 (l.k - 1) _ no_function n)))
+    let h : length a.functions ≡ function_room = long (goal.at.loop-k-preserved c).Start in
+    let n : l.k - 1 < length a.functions = omega arith in
+    (omega arith, omega arith, rw l.invariant.2 (moved_more no_function a.functions l.k (l.k - 1) _ (omega arith) (omega arith) (get_or_inside a.functions (l.k - 1) _ no_function n)))
 
 pub returns : goal.returns
 returns c =

@@ -1,7 +1,6 @@
 -- `frame_at` makes the four checks in their order. A sum that could wrap is a difference in the code.
 use mathlib.Core.Bool.{true, false}
 use mathlib.Core.Path.{◌≡◌, sym, ◌∙◌}
-use borrow.Author.Tests.{not-true, not-false}
 use Rattle.declaration.specs.Tag.{length_allowed, body_long}
 use Rattle.declaration.specs.Frame.{tag_at, length_at, header_cut}
 use Rattle.declaration.proofs.Frames.{header_cut_lem, header_there, body_cut_lem, body_there, frame_header_cut, frame_bad_form, frame_long, frame_body_cut, frame_field}
@@ -13,7 +12,7 @@ there : (c : Else-left-lt-FIELD_HEADER) → let a = c.args in header_cut a.file.
 there c = let a = c.args in header_there a.file.now a.at _ c.past-left.ensures c.if-left-lt-FIELD_HEADER.false
 
 allowed : (c : Else-not-allowed) → let a = c.args in length_allowed (tag_at a.file.now a.at) (length_at a.file.now a.at) ≡ true
-allowed c = rw (← c.read-length.ensures) (sym c.length_allowed-allowed.ensures ∙ not-false _ c.if-not-allowed.false)
+allowed c = rw (← c.read-length.ensures) (sym c.length_allowed-allowed.ensures ∙ c.if-not-allowed.false)
 
 short : (c : Else-long) → let a = c.args in body_long (tag_at a.file.now a.at) (length_at a.file.now a.at) ≡ false
 short c = rw (← c.read-length.ensures) (sym c.body_long-long.ensures ∙ c.if-long.false)
@@ -23,7 +22,7 @@ returns-then-left-lt-FIELD_HEADER c = let a = c.args in sym (frame_header_cut _ 
 
 pub returns-then-not-allowed : goal.returns-then-not-allowed
 returns-then-not-allowed c =
-    sym (frame_bad_form _ _ (there (goal.at.returns-then-not-allowed c).Else-left-lt-FIELD_HEADER) (rw (← c.read-length.ensures) (sym c.length_allowed-allowed.ensures ∙ not-true _ c.if-not-allowed.true)))
+    sym (frame_bad_form _ _ (there (goal.at.returns-then-not-allowed c).Else-left-lt-FIELD_HEADER) (rw (← c.read-length.ensures) (sym c.length_allowed-allowed.ensures ∙ c.if-not-allowed.true)))
 
 pub returns-then-long : goal.returns-then-long
 returns-then-long c =

@@ -44,6 +44,7 @@ returns-in-Refused c =
 
 pub returns-then-number-ne-ACCEPTED : goal.returns-then-number-ne-ACCEPTED
 returns-then-number-ne-ACCEPTED c =
+    
     let a = c.args in
     let l = c.loop-at in
     let t = c.tag-1.given.0 in
@@ -53,18 +54,21 @@ returns-then-number-ne-ACCEPTED c =
 
 pub overflow_add-at : goal.overflow_add-at
 overflow_add-at c =
+    
     let t = c.tag-1.given.0 in
     let f = field_framed c.args.file.now c.loop-at.at t.0 t.1.0 t.1.1.0 (framed (goal.at.overflow_add-at c).After-take_field-taken) in
     record { fits = omega (arith, f.inside, long (goal.at.overflow_add-at c).Start) }
 
 pub loop-at-smaller : goal.loop-at-smaller
 loop-at-smaller c =
+    
     let t = c.tag-1.given.0 in
     let f = field_framed c.args.file.now c.loop-at.at t.0 t.1.0 t.1.1.0 (framed (goal.at.loop-at-smaller c).After-take_field-taken) in
     omega (arith, f.behind, f.inside, c.loop-at-test.true)
 
 pub loop-at-preserved : goal.loop-at-preserved
 loop-at-preserved c =
+    
     let a = c.args in
     let l = c.loop-at in
     let t = c.tag-1.given.0 in

@@ -15,8 +15,8 @@ long c = search (rules, long_unmapped)
 
 pub returns-then-slot-ge-BAR_SLOTS : goal.returns-then-slot-ge-BAR_SLOTS
 returns-then-slot-ge-BAR_SLOTS c = let a = c.args in
-    let h : length a.t1.bars ≤ a.slot = omega (arith, long (goal.at.returns-then-slot-ge-BAR_SLOTS c).Start) in
-    rw (get_or-eq_default a.t1.bars no_bar h)
+    let h : length a.function.bars ≤ a.slot = omega (arith, long (goal.at.returns-then-slot-ge-BAR_SLOTS c).Start) in
+    rw (get_or-eq_default a.function.bars no_bar h)
 
 pub returns : goal.returns
 returns c = rw c.size.ensures

@@ -33,8 +33,8 @@ looked : (c : After-fault_of-fault) → c.fault_of-fault.result ≡ fault_of (fu
 looked c =
     let a = c.args in
     let l = c.loop-k in
-    let h : l.k < length a.t1.functions = omega (arith, l.invariant.1, c.loop-k-test.true, long c.before.before.before.before.before) in
-    c.fault_of-fault.ensures ∙ ap fault_of (get_or_inside a.t1.functions l.k _ no_function h)
+    let h : l.k < length a.finished.functions = omega (arith, l.invariant.1, c.loop-k-test.true, long c.before.before.before.before.before) in
+    c.fault_of-fault.ensures ∙ ap fault_of (get_or_inside a.finished.functions l.k _ no_function h)
 
 pub returns-then-fault-ne-ACCEPTED : goal.returns-then-fault-ne-ACCEPTED
 returns-then-fault-ne-ACCEPTED c =

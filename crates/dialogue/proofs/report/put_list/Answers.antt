@@ -10,7 +10,7 @@ use Rattle.dialogue.proofs.report.put_list.Goals as goal
 pub loop-k-init : goal.loop-k-init
 loop-k-init c =
     let a = c.args in
-    (omega arith, omega arith, refl, sym (parts_none (take a.at a.text.now) (listed_in a.t3)))
+    (omega arith, omega arith, refl, sym (parts_none (take a.at a.text.now) (listed_in a.report)))
 
 pub offset_bounds-report-k : goal.offset_bounds-report-k
 offset_bounds-report-k c = omega arith
@@ -32,7 +32,7 @@ loop-k-preserved c =
     let a = c.args in
     let l = c.loop-k in
     let k = c.put_listed-next.ensures in
-    (omega arith, omega (arith, k.0), c.text-1.given ∙ l.invariant.2, rw (k.1, l.invariant.3) (parts_more (take a.at a.text.now) (listed_in a.t3) l.k))
+    (omega arith, omega (arith, k.0), c.text-1.given ∙ l.invariant.2, rw (k.1, l.invariant.3) (parts_more (take a.at a.text.now) (listed_in a.report) l.k))
 
 pub shape_of-text : goal.shape_of-text
 shape_of-text c = c.loop-k.invariant.2
@@ -42,5 +42,5 @@ unfolding list_text
 returns c =
     let a = c.args in
     let l = c.loop-k in
-    let e : l.k ≡ min a.t3.list_count capability_room = omega arith in
+    let e : l.k ≡ min a.report.list_count capability_room = omega arith in
     (omega arith, rw e at l.invariant.3)

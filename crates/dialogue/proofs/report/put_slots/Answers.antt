@@ -10,7 +10,7 @@ use Rattle.dialogue.proofs.report.put_slots.Goals as goal
 pub loop-i-init : goal.loop-i-init
 loop-i-init c =
     let a = c.args in
-    (omega arith, omega arith, refl, sym (parts_none (take a.at a.text.now) (slot_in a.t3)))
+    (omega arith, omega arith, refl, sym (parts_none (take a.at a.text.now) (slot_in a.report)))
 
 pub offset_bounds-report-i : goal.offset_bounds-report-i
 offset_bounds-report-i c = omega arith
@@ -32,7 +32,7 @@ loop-i-preserved c =
     let a = c.args in
     let l = c.loop-i in
     let k = c.put_slot-next.ensures in
-    (omega arith, omega (arith, k.0), c.text-1.given ∙ l.invariant.2, rw (k.1, l.invariant.3) (parts_more (take a.at a.text.now) (slot_in a.t3) l.i))
+    (omega arith, omega (arith, k.0), c.text-1.given ∙ l.invariant.2, rw (k.1, l.invariant.3) (parts_more (take a.at a.text.now) (slot_in a.report) l.i))
 
 pub shape_of-text : goal.shape_of-text
 shape_of-text c = c.loop-i.invariant.2

@@ -2,7 +2,6 @@ use Prim.Native.Nat.{◌-◌}
 use mathlib.Core.List.{[]}
 use mathlib.Core.Path.{◌≡◌, sym, ◌∙◌}
 use native.Mathlib.Omega.{arith}
-use borrow.Author.Tests.{not-true, not-false}
 use lib.ListN.{length}
 use Rattle.word.proofs.Tables.{blank_filled, filled_more}
 use Rattle.address.specs.Limits.{capability_room}
@@ -27,14 +26,18 @@ ended c e =
 
 pub returns-then-not-there : goal.returns-then-not-there
 returns-then-not-there c =
+    
+    
     let a = c.args in
-    ended (goal.at.returns-then-not-there c).At-loop-n (list_ends a.bus a.device _ _ (sym c.goes_on-there.ensures ∙ not-true _ c.if-not-there.true))
+    ended (goal.at.returns-then-not-there c).At-loop-n (list_ends a.bus a.device _ _ (sym c.goes_on-there.ensures ∙ c.if-not-there.true))
 
 pub loop-n-preserved : goal.loop-n-preserved
 loop-n-preserved c =
+    
+    
     let l = c.loop-n in
     let a = c.args in
-    let on = sym c.goes_on-there.ensures ∙ not-false _ c.if-not-there.false in
+    let on = sym c.goes_on-there.ensures ∙ c.if-not-there.false in
     let f = l.invariant.1.1 in (
       omega arith,
       (
@@ -45,6 +48,7 @@ loop-n-preserved c =
 
 pub returns : goal.returns
 returns c =
+    
     let a = c.args in
     let e : capability_room - c.loop-n.n ≡ 0 = omega arith in
     ended (goal.at.returns c).At-loop-n (rw e (list_full a.bus a.device c.loop-n.at))

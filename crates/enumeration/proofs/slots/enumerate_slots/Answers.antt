@@ -21,6 +21,7 @@ loop-i-init c =
 
 pub loop-i-preserved : goal.loop-i-preserved
 loop-i-preserved c =
+    
     let l = c.loop-i in
     let a = c.args in
     let done = c.enumerate_slot-done.ensures in (

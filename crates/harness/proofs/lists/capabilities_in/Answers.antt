@@ -33,7 +33,7 @@ pub loop-k-preserved : goal.loop-k-preserved
 loop-k-preserved c =
     let l = c.loop-k in
     let a = c.args in
-    (omega arith, rw l.invariant.1 (filled_more capability_room (place a.t1 a.t2) no_capability l.k c.capability_of-capability.result (omega arith) c.capability_of-capability.ensures))
+    (omega arith, rw l.invariant.1 (filled_more capability_room (place a.ids a.lengths) no_capability l.k c.capability_of-capability.result (omega arith) c.capability_of-capability.ensures))
 
 pub returns : goal.returns
 unfolding capabilities_in
@@ -41,4 +41,4 @@ returns c =
     let l = c.loop-k in
     let a = c.args in
     let e : l.k ≡ capability_room = omega arith in
-    l.invariant.1 ∙ rw e (filled_all capability_room (place a.t1 a.t2) no_capability)
+    l.invariant.1 ∙ rw e (filled_all capability_room (place a.ids a.lengths) no_capability)

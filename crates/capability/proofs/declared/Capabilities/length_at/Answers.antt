@@ -17,5 +17,5 @@ long c = search (rules, long_unmapped)
 pub returns-then-index-ge-CAPABILITY_LIMIT : goal.returns-then-index-ge-CAPABILITY_LIMIT
 returns-then-index-ge-CAPABILITY_LIMIT c =
     let a = c.args in
-    let h : length a.t1.list ≤ a.index = omega (arith, long (goal.at.returns-then-index-ge-CAPABILITY_LIMIT c).Start) in
-    sym (ap (λ (k : Capability). k.length) (get_or-eq_default a.t1.list no_capability h))
+    let h : length a.self.list ≤ a.index = omega (arith, long (goal.at.returns-then-index-ge-CAPABILITY_LIMIT c).Start) in
+    sym (ap (λ (k : Capability). k.length) (get_or-eq_default a.self.list no_capability h))

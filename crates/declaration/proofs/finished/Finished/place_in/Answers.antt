@@ -31,8 +31,8 @@ pub returns-then-device-function : goal.returns-then-device-function
 returns-then-device-function c =
     let a = c.args in
     let l = c.loop-k in
-    let h : l.k < length a.t1.functions = omega (arith, long (goal.at.returns-then-device-function c).Start) in
-    sym (least_at _ _ _ c.loop-k-test.true (lt-ltb _ _ (subst (λ (x : Function). a.device < x.device) (get_or_inside a.t1.functions l.k _ no_function h) c.if-device-function.true)) l.invariant.1)
+    let h : l.k < length a.self.functions = omega (arith, long (goal.at.returns-then-device-function c).Start) in
+    sym (least_at _ _ _ c.loop-k-test.true (lt-ltb _ _ (subst (λ (x : Function). a.device < x.device) (get_or_inside a.self.functions l.k _ no_function h) c.if-device-function.true)) l.invariant.1)
 
 pub overflow_add-k : goal.overflow_add-k
 overflow_add-k c = omega arith
@@ -44,8 +44,8 @@ pub loop-k-preserved : goal.loop-k-preserved
 loop-k-preserved c =
     let a = c.args in
     let l = c.loop-k in
-    let h : l.k < length a.t1.functions = omega (arith, long (goal.at.loop-k-preserved c).Start) in
-    (omega arith, below_more _ _ l.invariant.1 (le-ltb _ _ (subst (λ (x : Function). x.device ≤ a.device) (get_or_inside a.t1.functions l.k _ no_function h) c.if-device-function.false)))
+    let h : l.k < length a.self.functions = omega (arith, long (goal.at.loop-k-preserved c).Start) in
+    (omega arith, below_more _ _ l.invariant.1 (le-ltb _ _ (subst (λ (x : Function). x.device ≤ a.device) (get_or_inside a.self.functions l.k _ no_function h) c.if-device-function.false)))
 
 pub returns : goal.returns
 returns c = let l = c.loop-k in
