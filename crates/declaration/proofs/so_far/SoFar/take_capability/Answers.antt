@@ -19,7 +19,6 @@ short c = (capability_is _ _ _ (sym c.new.ensures ∙ c.in-Good.is)).1
 
 added : (c : After-add_capability-done) → let a = c.args in c.add_capability-done.result ≡ add_capability_of limits a.self.function.capabilities (capability a.id a.length)
 added c =
-    
     let a = c.args in
     c.add_capability-done.ensures ∙ ap (λ (x : Capability). add_capability_of limits a.self.function.capabilities x) (capability_is _ _ _ (sym c.new.ensures ∙ c.in-Good.is)).0
 
@@ -34,22 +33,17 @@ returns-then-self-eq0 c =
     c.refused-then-self-eq0.ensures ∙ sym (capability_early limits a.self a.id a.length a.body.now (short (goal.at.returns-then-self-eq0 c).In-Good) c.if-self-eq0.true)
 
 pub bodies_with-contents-requires : goal.bodies_with-contents-requires
-bodies_with-contents-requires c = short (goal.at.bodies_with-contents-requires c).After-struct_known-1
+bodies_with-contents-requires c = short (goal.at.bodies_with-contents-requires c).In-Good
 
 pub mask_of-mask-requires : goal.mask_of-mask-requires
-mask_of-mask-requires c = short (goal.at.mask_of-mask-requires c).After-struct_known-1
+mask_of-mask-requires c = short (goal.at.mask_of-mask-requires c).In-Good
 
 pub returns-in-Full : goal.returns-in-Full
 returns-in-Full c = 
-    
-    
     let a = c.args in
     rw (c.refused-in-Full.ensures, capability_step limits a.self a.id a.length a.body.now (short (goal.at.returns-in-Full c).In-Good) c.if-self-eq0.false, ← added (goal.at.returns-in-Full c).After-add_capability-done, c.in-Full.is)
 
 pub returns-in-Added : goal.returns-in-Added
 returns-in-Added c = 
-    
-    
-    
     let a = c.args in
-    rw (c.accepted.ensures, c.mask_of-mask.ensures, c.bodies_with-contents.ensures, capability_step limits a.self a.id a.length a.body.now (short (goal.at.returns-in-Added c).After-struct_known-1) c.if-self-eq0.false, ← added (goal.at.returns-in-Added c).In-Added, c.in-Added.is)
+    rw (c.accepted.ensures, c.mask_of-mask.ensures, c.bodies_with-contents.ensures, capability_step limits a.self a.id a.length a.body.now (short (goal.at.returns-in-Added c).In-Good) c.if-self-eq0.false, ← added (goal.at.returns-in-Added c).After-add_capability-done, c.in-Added.is)
