@@ -1,16 +1,16 @@
 -- A step on a state that is lent and changed in place, with a second one lent beside it, proved once for all of them, every argument, answer and step:
 --     fn beside(s: &mut S, o: &mut O, p: P) -> R
---         ensures { λ r. ⌜ (r ≡ (step (now s.entry) (now o.entry) p).answer) × (now o.exit ≡ (step (now s.entry) (now o.entry) p).other) × (now s.exit ≡ (step (now s.entry) (now o.entry) p).state) ⌝ }
+--         ensures { (result ≡ (step s.old o.old p).answer) × (o.new ≡ (step s.old o.old p).other) × (s.new ≡ (step s.old o.old p).state) }
 --     { let d = step(*s, *o, p); *s = d.state; *o = d.other; d.answer }
--- over a by-value `fn step(s: S, o: O, p: P) -> D  ensures { λ d. ⌜ d ≡ step s o p ⌝ }`, where D is a struct of the answer, the second state and the state, in this order, and S, O, P and R are plain data.
+-- over a by-value `fn step(s: S, o: O, p: P) -> D  ensures { result ≡ step s o p }`, where D is a struct of the answer, the second state and the state, in this order, and S, O, P and R are plain data.
 -- Assumes `Logic`.
 use types.Logic.{Logic}
 use denote.Ref.{MutBor, mut_vals}
-use Rattle.walks.proofs.Walk.{Ura, full_share, ◌≡◌, refl, List, [], ◌∷◌, ℕ, named, Val, vptr, SProp, ent, emp, via, fst∗, snd∗, ex_e, id⊢, GName, Lft, Share, ftrue, flft, fobs, fbor, fat, Calls, Loops, WpFn, Tables, sem, fact}
+use Rattle.walks.proofs.Walk.{Ura, full_share, ◌≡◌, refl, List, [], ◌∷◌, ℕ, named, Val, vptr, SProp, ent, emp, via, fst∗, id⊢, GName, Lft, Share, ftrue, flft, fobs, fbor, fat, Calls, Loops, WpFn, Tables, fact}
 use Rattle.walks.proofs.Walk.{‵, raw, ◌⊛◌, ⋆, some, later, ◌$◌, ◌∵◌, !, qed, by, move, keep, drop, use0, use1, split, join, pick, rewrite, fsplit, fsplit3, fjoin, fjoin3, feq_i, suffices, frame, await, done}
 use Rattle.walks.proofs.Walk.{look, look_raw, init, store_raw, forget, stop, hop, fld, from, load, of_opd, and_then, no_more, assigns, land, returns, enter, alloc1, alloc0, params1, pass1, pass0, free1, free0, whole, sub, look_in, Body, FmC, fm_of, WpFn-mono}
-use Rattle.walks.proofs.Walk.{RattleType, owns, Is, shows, mem, lone, RefT, MutRef, now, ptr-vals, mut_Tells, plain, opens, closes, owned, facts, heard, nothing, spelt, Declared, Contract, Triple, calls_at, on_entry, Meets, triple_of, says, Stays, stay_ref, stay_none, walk_of, AllGo, Goes-none, Goes-ref, Walks, ends_at, walked, walk_Meets, ensured, lasts, yes}
-use mir.Syntax.{Ty, Sym, Name, Fn, mut, ty_ref, ty_struct, tcons, tnil, local, value_local, place, deref, field, copy, rv_opd, assign, call, seq, return}
+use Rattle.walks.proofs.Walk.{RattleType, owns, Is, shows, mem, lone, MutRef, mut_Tells, plain, opens, closes, owned, facts, heard, nothing, spelt, Declared, Contract, Triple, calls_at, on_entry, Meets, says, Stays, stay_ref, stay_none, walk_of, AllGo, Goes-none, Goes-ref, Walks, ends_at, walked, walk_Meets, yes}
+use mir.Syntax.{Ty, Sym, Callee, Fn, mut, ty_ref, ty_struct, tcons, tnil, local, value_local, place, deref, field, copy, rv_opd, assign, call, seq, return}
 use denote.Builtin.{RefMutOf}
 use denote.Signature.{Signature}
 use denote.Struct.Declared.{fields, row}
@@ -44,10 +44,12 @@ module _ (T : Declared) (L : LL.Laws T) (pl : Plains (fields T)) (O : Declared) 
     abbrev pub ended : Ended
     ended = record { signature = signature; kept = (yes, (yes, (yes, tt))) }
 
-    abbrev pub fn : Name → Ty → Ty → Fn
+    abbrev pub fn : Callee → Ty → Ty → Fn
     fn f τs ωs = record {
       lifetimes = 2;
       outlives = [];
+      ty_params = [];
+      givens = 0;
       params = 3;
       locals = local N.ty value_local ∷ local (ty_ref (named 0) mut τs) value_local ∷ local (ty_ref (named 1) mut ωs) value_local ∷ local F.ty value_local ∷ local (τD ν) value_local ∷ local τ value_local ∷ local ω value_local ∷ [];
       body = seq (assign (place 5 []) (rv_opd (copy (place 1 (deref τ ∷ []))))) (seq (assign (place 6 []) (rv_opd (copy (place 2 (deref ω ∷ [])))))
@@ -58,7 +60,7 @@ module _ (T : Declared) (L : LL.Laws T) (pl : Plains (fields T)) (O : Declared) 
 
     module _ {M : Type 1} (𝓤 : Ura M) where
       abbrev pub clauses : Clauses 𝓤 ended
-      clauses κs a = record { ghost = Unit {0}; requires = λ _. emp 𝓤; ensures = λ _ r e. fact 𝓤 ((r ≡ pr.answer (spec (now a.0) (now a.1.0) a.1.1.0)) × ((now e.1.0 ≡ pr.other (spec (now a.0) (now a.1.0) a.1.1.0)) × (now e.0 ≡ pr.state (spec (now a.0) (now a.1.0) a.1.1.0)))) }
+      clauses κs a = record { ghost = Unit {0}; requires = λ _. emp 𝓤; ensures = λ _ r e. fact 𝓤 ((r ≡ pr.answer (spec a.0.now a.1.0.now a.1.1.0)) × ((e.1.0.now ≡ pr.other (spec a.0.now a.1.0.now a.1.1.0)) × (e.0.now ≡ pr.state (spec a.0.now a.1.0.now a.1.1.0)))) }
 
     abbrev stayed : Stays ended.signature.params ended.kept
     stayed = (stay_ref (0 ∷ []) tt (plain (λ _. row T)), (stay_ref (1 ∷ []) tt (plain (λ _. row O)), (stay_none (λ _. P) yes, tt)))
@@ -66,7 +68,7 @@ module _ (T : Declared) (L : LL.Laws T) (pl : Plains (fields T)) (O : Declared) 
     abbrev StepC : {M : Type 1} {𝓤 : Ura M} (𝓛 : Logic 𝓤) → Contract 𝓤
     StepC 𝓛 = Step2 T O P D spec 𝓛
 
-    module _ (f : Name) (τs ωs : Ty) {M : Type 1} {𝓤 : Ura M} (𝓛 : Logic 𝓤) where
+    module _ (f : Callee) (τs ωs : Ty) {M : Type 1} {𝓤 : Ura M} (𝓛 : Logic 𝓤) where
       open 𝓛 use {H}
 
       module _ (κ κ' : Lft) (q q' : Share) (b o : ℕ) (γ : GName) (h : T.D) (b' o' : ℕ) (γ' : GName) (g : O.D) (w : P.Denot) (gw : Is P w (F.val w ∷ [])) where
@@ -128,7 +130,7 @@ module _ (T : Declared) (L : LL.Laws T) (pl : Plains (fields T)) (O : Declared) 
 
       walks : (C : Calls 𝓤 H) (Λ : Loops 𝓤 H) → FmC 𝓤 H 𝓛.laws C → Triple 𝓤 (C f) (StepC 𝓛) → Walks 𝓛 ended stayed (WpFn 𝓤 H C Λ (fn f τs ωs)) (clauses 𝓤)
       walks C Λ fm known = walked 𝓛 ended stayed (clauses 𝓤) (WpFn 𝓤 H C Λ (fn f τs ωs)) (λ κs. (mut_vals, (mut_vals, ((λ y. F.val y ∷ []), tt)))) (λ κs. (mut_Tells (named 0) κs.0 (row T), (mut_Tells (named 1) κs.1.0 (row O), (F.tells, tt))))
-          (λ κs qs bounds a _ are. via 𝓤 _ (fst∗ 𝓤 _ (emp 𝓤)) (walk κs.0 κs.1.0 qs.0 qs.1.0 a.0.ptr.0 a.0.ptr.1 a.0.name a.0.now a.1.0.ptr.0 a.1.0.ptr.1 a.1.0.name a.1.0.now a.1.1.0 are.1.1.0 C Λ fm known))
+          (λ κs qs bounds a _ are. via 𝓤 _ (fst∗ 𝓤 _ (emp 𝓤)) (walk κs.0 κs.1.0 qs.0 qs.1.0 a.0.ref_ptr.0 a.0.ref_ptr.1 a.0.ghost_name a.0.now a.1.0.ref_ptr.0 a.1.0.ref_ptr.1 a.1.0.ghost_name a.1.0.now a.1.1.0 are.1.1.0 C Λ fm known))
 
       goes : AllGo 𝓛 2 signature.params ended.kept stayed
       goes = (Goes-ref 𝓛 2 0 tt (plain (λ _. row T)), (Goes-ref 𝓛 2 1 tt (plain (λ _. row O)), (Goes-none 𝓛 2 (λ _. P) yes (λ κs y z. F.silent y z), tt)))
