@@ -55,10 +55,11 @@ module _ (T : Declared) (L : LL.Laws T) (pl : Plains (fields T)) (cs : LL.Copyab
       ty_params = [];
       givens = 0;
       params = 3;
-      locals = local N.ty value_local ∷ local (ty_ref (named 0) imm τs) value_local ∷ local (ty_ref (named 1) mut ωs) value_local ∷ local F.ty value_local ∷ local (τD ν) value_local ∷ local τ value_local ∷ local ω value_local ∷ [];
+      locals = local N.ty value_local ∷ local (ty_ref (named 0) imm τs) value_local ∷ local (ty_ref (named 1) mut ωs) value_local ∷ local F.ty value_local ∷ local (τD ν) value_local ∷ local τ value_local ∷ local ω value_local ∷ local ω value_local ∷ [];
       body = seq (assign (place 5 []) (rv_opd (copy (place 1 (deref τ ∷ []))))) (seq (assign (place 6 []) (rv_opd (copy (place 2 (deref ω ∷ [])))))
           (seq (call f (copy (place 5 []) ∷ copy (place 6 []) ∷ copy (place 3 []) ∷ []) (place 4 []))
-          (seq (assign (place 2 (deref ω ∷ [])) (rv_opd (copy (place 4 (field 1 ∷ []))))) (seq (assign (place 0 []) (rv_opd (copy (place 4 (field 0 ∷ []))))) return))));
+          (seq (assign (place 7 []) (rv_opd (copy (place 4 (field 1 ∷ []))))) (seq (assign (place 2 (deref ω ∷ [])) (rv_opd (copy (place 7 []))))
+          (seq (assign (place 0 []) (rv_opd (copy (place 4 (field 0 ∷ []))))) return)))));
     }
 
     module _ {M : Type 1} (𝓤 : Ura M) where
@@ -105,29 +106,30 @@ module _ (T : Declared) (L : LL.Laws T) (pl : Plains (fields T)) (cs : LL.Copyab
           walk : ent 𝓤 (on_entry 𝓛 signature (κ, (κ', tt)) (q, (q', tt)) x at) (WpFn 𝓤 H C Λ (fn f τs ωs) (vptr b o ∷ vptr b' o' ∷ F.val w ∷ []) Post)
           walk =
               qed 𝓛 ((‵ (flft κ q) ⊛ (‵ (flft κ' q') ⊛ ‵ ftrue)) ∷ ‵ (owns (ShrRef (named 0) κ (row T) ∷ MutRef (named 1) κ' (row O) ∷ P ∷ []) x at) ∷ []) ∵ enter ! C Λ (fn f τs ωs) (vptr b o ∷ vptr b' o' ∷ F.val w ∷ []) _ $
-              alloc1 ! (λ l₀. alloc1 ! (λ l₁. alloc1 ! (λ l₂. alloc1 ! (λ l₃. alloc1 ! (λ l₄. alloc1 ! (λ l₅. alloc1 ! (λ l₆. alloc0 ! $ params1 ! $ pass1 ! (init ! 10 refl (tt, tt)) $ pass1 ! (init ! 8 refl (tt, tt)) $ pass1 ! (init ! 6 refl (F.typed 𝓛 w _ gw)) $ pass0 ! $
-              move ! (15 ∷ []) $ fsplit ! $ fsplit ! $ drop ! $ move ! (1 ∷ []) $ fsplit ! $ fsplit3 ! $ drop ! $ move ! (18 ∷ []) $ split ! $ move ! (1 ∷ []) $ split ! $ move ! (6 ∷ 2 ∷ []) $
+              alloc1 ! (λ l₀. alloc1 ! (λ l₁. alloc1 ! (λ l₂. alloc1 ! (λ l₃. alloc1 ! (λ l₄. alloc1 ! (λ l₅. alloc1 ! (λ l₆. alloc1 ! (λ l₇. alloc0 ! $ params1 ! $ pass1 ! (init ! 12 refl (tt, tt)) $ pass1 ! (init ! 10 refl (tt, tt)) $ pass1 ! (init ! 8 refl (F.typed 𝓛 w _ gw)) $ pass0 ! $
+              move ! (17 ∷ []) $ fsplit ! $ fsplit ! $ drop ! $ move ! (1 ∷ []) $ fsplit ! $ fsplit3 ! $ drop ! $ move ! (20 ∷ []) $ split ! $ move ! (1 ∷ []) $ split ! $ move ! (6 ∷ 2 ∷ []) $
               looks ! tt (row T) (LL.copied T cs 𝓛).opens h b o (λ p vs. spelt ! (row T) (Is (row T)) (shows 𝓛 (row T)) vals (LL.tells T L) p h vs b o $
               move ! (1 ∷ []) $ peeks ! (row T) (Is (row T)) (shows 𝓛 (row T)) h (vals h) (λ was. move ! (1 ∷ 0 ∷ []) $
-              -- [a share of the state's cell; what it owns; the way back; what its reference holds; the second's token; true; its obs; its borrow; what the argument owns; _6 at 9; …; _0 at 21; …]
-              assigns ! (of_opd ! (load ! (from ! (hop ! (look ! 19 refl) (stop !))) (look_raw ! 0 refl))) (from ! (stop !)) (init ! 11 refl ((LL.lawful T L 𝓛).typed h _ was).0) $
+              -- [a share of the state's cell; what it owns; the way back; what its reference holds; the second's token; true; its obs; its borrow; what the argument owns; _7 at 9; …; _0 at 23; …]
+              assigns ! (of_opd ! (load ! (from ! (hop ! (look ! 21 refl) (stop !))) (look_raw ! 0 refl))) (from ! (stop !)) (init ! 13 refl ((LL.lawful T L 𝓛).typed h _ was).0) $
               shuts ! tt (row T) p h (vals h) b o $ move ! (4 ∷ 5 ∷ 2 ∷ []) $
               opens ! tt (row O) {h = g} b' o' (λ us. spelt ! (row O) (Is (row O)) (shows 𝓛 (row O)) vals' (LL.tells O K) full_share g us b' o' $ move ! (1 ∷ []) $ facts ! (row O) (Is (row O)) (shows 𝓛 (row O)) g (vals' g) (λ was'.
-              -- [the second's cell, open borrow, obs, auth; the state's token and what its reference holds; true; what the argument owns; _6 at 8; …; _0 at 20; …]
-              assigns ! (of_opd ! (load ! (from ! (hop ! (look ! 16 refl) (stop !))) (look_raw ! 0 refl))) (from ! (stop !)) (init ! 8 refl ((LL.lawful O K 𝓛).typed g _ was').0) $
+              -- [the second's cell, open borrow, obs, auth; the state's token and what its reference holds; true; what the argument owns; _7 at 8; …; _0 at 22; …]
+              assigns ! (of_opd ! (load ! (from ! (hop ! (look ! 18 refl) (stop !))) (look_raw ! 0 refl))) (from ! (stop !)) (init ! 10 refl ((LL.lawful O K 𝓛).typed g _ was').0) $
               use0 𝓛 (raw ((StepC 𝓛).pre (to2 T O P D spec 𝓛 h g w L pl K po F))) (asks2 T O P D spec 𝓛 h g w L pl K po F gw was was') $
-              calls_at ! fm (StepC 𝓛) known (to2 T O P D spec 𝓛 h g w L pl K po F) (and_then ! (load ! (from ! (stop !)) (look ! 11 refl)) (and_then ! (load ! (from ! (stop !)) (look ! 9 refl)) (and_then ! (load ! (from ! (stop !)) (look ! 15 refl)) (no_more !)))) (λ v.
+              calls_at ! fm (StepC 𝓛) known (to2 T O P D spec 𝓛 h g w L pl K po F) (and_then ! (load ! (from ! (stop !)) (look ! 13 refl)) (and_then ! (load ! (from ! (stop !)) (look ! 11 refl)) (and_then ! (load ! (from ! (stop !)) (look ! 17 refl)) (no_more !)))) (λ v.
               use1 𝓛 (later (some (λ (r : D.Denot). (‵ ftrue ⊛ ‵ (D.own_val r (v ∷ []))) ⊛ raw (Ensured2 T O P D spec 𝓛 h g w r)))) (id⊢ 𝓤 _) $ await ! tt $ pick ! (λ r.
               split ! $ move ! (1 ∷ []) $ use1 𝓛 (raw (fact 𝓤 (Said r))) (said2 T O P D spec 𝓛 h g w r) $ heard ! (Said r) (λ e. split ! $ drop ! $ facts ! D (Is D) (shows 𝓛 D) r (v ∷ []) (λ is.
               -- the result stands in _4, and its machine value is spelled out
-              land ! (from ! (stop !)) (init ! 12 refl (pr.typed 𝓛 r v is)) $ rewrite ! 12 (λ (u : Val). ‵ (fat full_share (τD ν) l₄ 0 u)) (pr.tells r v is) refl $
-              assigns ! (of_opd ! (load ! (from ! (fld ! refl (stop !))) (look_in ! 12 (sub ! 1 refl (whole !))))) (from ! (hop ! (look ! 16 refl) (stop !))) (store_raw ! 0 refl ((LL.lawful O K 𝓛).typed (pr.state r) _ (pr.state_is r v is)).0) $
-              assigns ! (of_opd ! (load ! (from ! (fld ! refl (stop !))) (look_in ! 12 (sub ! 0 refl (whole !))))) (from ! (stop !)) (init ! 20 refl (N.typed 𝓛 (pr.answer r) _ (pr.answer_is r v is))) $
+              land ! (from ! (stop !)) (init ! 14 refl (pr.typed 𝓛 r v is)) $ rewrite ! 14 (λ (u : Val). ‵ (fat full_share (τD ν) l₄ 0 u)) (pr.tells r v is) refl $
+              assigns ! (of_opd ! (load ! (from ! (fld ! refl (stop !))) (look_in ! 14 (sub ! 1 refl (whole !))))) (from ! (stop !)) (init ! 8 refl ((LL.lawful O K 𝓛).typed (pr.state r) _ (pr.state_is r v is)).0) $
+              assigns ! (of_opd ! (load ! (from ! (stop !)) (look ! 8 refl))) (from ! (hop ! (look ! 18 refl) (stop !))) (store_raw ! 0 refl ((LL.lawful O K 𝓛).typed (pr.state r) _ (pr.state_is r v is)).0) $
+              assigns ! (of_opd ! (load ! (from ! (fld ! refl (stop !))) (look_in ! 14 (sub ! 0 refl (whole !))))) (from ! (stop !)) (init ! 22 refl (N.typed 𝓛 (pr.answer r) _ (pr.answer_is r v is))) $
               owned ! (row O) (Is (row O)) (LL.makes O po 𝓛) (pr.state r) _ (pr.state_is r v is) $ move ! (1 ∷ 0 ∷ []) $ closes ! tt (row O) (pr.state r) (vals' (pr.state r)) b' o' $
-              -- [obs, borrow and token of the second; the state's token and what its reference holds; true; what the argument owns; _6 at 7; …; _0 at 19; …]
-              returns ! (look ! 19 refl) $ forget ! 7 refl $ forget ! 9 refl $ forget ! 11 refl $ forget ! 13 refl $ forget ! 15 refl $ forget ! 17 refl $ forget ! 19 refl $
-              move ! (19 ∷ 20 ∷ []) $ free1 ! $ move ! (17 ∷ 18 ∷ []) $ free1 ! $ move ! (15 ∷ 16 ∷ []) $ free1 ! $ move ! (13 ∷ 14 ∷ []) $ free1 ! $ move ! (11 ∷ 12 ∷ []) $ free1 ! $ move ! (9 ∷ 10 ∷ []) $ free1 ! $ move ! (7 ∷ 8 ∷ []) $ free1 ! $ free0 ! $
-              keep ! (0 ∷ 1 ∷ 2 ∷ 3 ∷ 4 ∷ []) $ by ! (exits r e (pr.answer_is r v is)))))))))))))))))
+              -- [obs, borrow and token of the second; the state's token and what its reference holds; true; what the argument owns; _7 at 7; …; _0 at 21; …]
+              returns ! (look ! 21 refl) $ forget ! 7 refl $ forget ! 9 refl $ forget ! 11 refl $ forget ! 13 refl $ forget ! 15 refl $ forget ! 17 refl $ forget ! 19 refl $ forget ! 21 refl $
+              move ! (21 ∷ 22 ∷ []) $ free1 ! $ move ! (19 ∷ 20 ∷ []) $ free1 ! $ move ! (17 ∷ 18 ∷ []) $ free1 ! $ move ! (15 ∷ 16 ∷ []) $ free1 ! $ move ! (13 ∷ 14 ∷ []) $ free1 ! $ move ! (11 ∷ 12 ∷ []) $ free1 ! $ move ! (9 ∷ 10 ∷ []) $ free1 ! $ move ! (7 ∷ 8 ∷ []) $ free1 ! $ free0 ! $
+              keep ! (0 ∷ 1 ∷ 2 ∷ 3 ∷ 4 ∷ []) $ by ! (exits r e (pr.answer_is r v is))))))))))))))))))
 
       walks : (C : Calls 𝓤 H) (Λ : Loops 𝓤 H) → FmC 𝓤 H 𝓛.laws C → Triple 𝓤 (C f) (StepC 𝓛) → Walks 𝓛 ended stayed (WpFn 𝓤 H C Λ (fn f τs ωs)) (clauses 𝓤)
       walks C Λ fm known = walked 𝓛 ended stayed (clauses 𝓤) (WpFn 𝓤 H C Λ (fn f τs ωs)) (λ κs. (shr_vals, (mut_vals, ((λ y. F.val y ∷ []), tt)))) (λ κs. (shr_Tells (named 0) κs.0 (row T), (mut_Tells (named 1) κs.1.0 (row O), (F.tells, tt))))
