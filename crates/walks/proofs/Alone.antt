@@ -1,15 +1,15 @@
 -- A step with no argument on a state that is lent and changed in place, proved once for every state, answer and step:
---     fn alone(s: &mut S) -> R  ensures { λ r. ⌜ (r ≡ (step (now s.entry)).answer) × (now s.exit ≡ (step (now s.entry)).state) ⌝ }
+--     fn alone(s: &mut S) -> R  ensures { (result ≡ (step s.old).answer) × (s.new ≡ (step s.old).state) }
 --     { let d = step(*s); *s = d.state; d.answer }
--- over a by-value `fn step(s: S) -> D  ensures { λ d. ⌜ d ≡ step s ⌝ }`, where D is a struct of the answer and the state, in this order, and S and R are plain data.
+-- over a by-value `fn step(s: S) -> D  ensures { result ≡ step s }`, where D is a struct of the answer and the state, in this order, and S and R are plain data.
 -- Assumes `Logic`.
-use types.Logic.{Logic, sem}
+use types.Logic.{Logic}
 use denote.Ref.{MutBor, mut_vals}
 use Rattle.walks.proofs.Walk.{Ura, full_share, ◌≡◌, refl, List, [], ◌∷◌, ℕ, named, Val, vptr, SProp, ent, emp, via, fst∗, snd∗, ex_e, id⊢, GName, Lft, Share, ftrue, flft, fobs, fbor, fat, Calls, Loops, WpFn, Tables, sem, fact}
 use Rattle.walks.proofs.Walk.{‵, raw, ◌⊛◌, ⋆, some, later, ◌$◌, ◌∵◌, !, qed, by, move, keep, drop, use0, use1, split, join, pick, rewrite, fsplit, fsplit3, fjoin, fjoin3, feq_i, suffices, frame, await, done}
 use Rattle.walks.proofs.Walk.{look, look_raw, init, store_raw, forget, stop, hop, fld, from, load, of_opd, and_then, no_more, assigns, land, returns, enter, alloc1, alloc0, params1, pass1, pass0, free1, free0, whole, sub, look_in, Body, FmC, fm_of, WpFn-mono}
-use Rattle.walks.proofs.Walk.{RattleType, owns, Is, shows, mem, lone, RefT, MutRef, now, ptr-vals, mut_Tells, plain, opens, closes, owned, facts, heard, nothing, spelt, Declared, Contract, Triple, calls_at, on_entry, Meets, triple_of, says, Stays, stay_ref, stay_none, walk_of, AllGo, Goes-none, Goes-ref, Walks, ends_at, walked, walk_Meets, ensured, lasts, yes}
-use mir.Syntax.{Ty, Sym, Name, Fn, mut, ty_ref, ty_struct, tcons, tnil, local, value_local, place, deref, field, copy, rv_opd, assign, call, seq, return}
+use Rattle.walks.proofs.Walk.{RattleType, owns, Is, shows, mem, lone, MutRef, mut_Tells, plain, opens, closes, owned, facts, heard, nothing, spelt, Declared, Contract, Triple, calls_at, on_entry, Meets, triple_of, says, Stays, stay_ref, walk_of, AllGo, Goes-ref, Walks, ends_at, walked, walk_Meets, ensured, lasts, yes}
+use mir.Syntax.{Ty, Sym, Callee, Fn, mut, ty_ref, ty_struct, tcons, tnil, local, value_local, place, deref, field, copy, rv_opd, assign, call, seq, return}
 use denote.Builtin.{RefMutOf}
 use denote.Signature.{Signature}
 use denote.Struct.Declared.{fields, row}
@@ -42,19 +42,22 @@ module _ (T : Declared) (L : LL.Laws T) (pl : Plains (fields T)) (R : RattleType
     abbrev pub step_ended : Ended
     step_ended = record { signature = step_signature; kept = (yes, tt) }
 
-    abbrev pub fn : Name → Ty → Fn
+    abbrev pub fn : Callee → Ty → Fn
     fn f τs = record {
       lifetimes = 1;
       outlives = [];
+      ty_params = [];
+      givens = 0;
       params = 1;
-      locals = local N.ty value_local ∷ local (ty_ref (named 0) mut τs) value_local ∷ local (τD ν) value_local ∷ local τ value_local ∷ [];
+      locals = local N.ty value_local ∷ local (ty_ref (named 0) mut τs) value_local ∷ local (τD ν) value_local ∷ local τ value_local ∷ local τ value_local ∷ [];
       body = seq (assign (place 3 []) (rv_opd (copy (place 1 (deref τ ∷ []))))) (seq (call f (copy (place 3 []) ∷ []) (place 2 []))
-          (seq (assign (place 1 (deref τ ∷ [])) (rv_opd (copy (place 2 (field 1 ∷ []))))) (seq (assign (place 0 []) (rv_opd (copy (place 2 (field 0 ∷ []))))) return)));
+          (seq (assign (place 4 []) (rv_opd (copy (place 2 (field 1 ∷ []))))) (seq (assign (place 1 (deref τ ∷ [])) (rv_opd (copy (place 4 []))))
+          (seq (assign (place 0 []) (rv_opd (copy (place 2 (field 0 ∷ []))))) return))));
     }
 
     module _ {M : Type 1} (𝓤 : Ura M) where
       abbrev pub clauses : Clauses 𝓤 ended
-      clauses κs a = record { ghost = Unit {0}; requires = λ _. emp 𝓤; ensures = λ _ r e. fact 𝓤 ((r ≡ pr.answer (spec (now a.0))) × (now e.0 ≡ pr.state (spec (now a.0)))) }
+      clauses κs a = record { ghost = Unit {0}; requires = λ _. emp 𝓤; ensures = λ _ r e. fact 𝓤 ((r ≡ pr.answer (spec a.0.now)) × (e.0.now ≡ pr.state (spec a.0.now))) }
 
       abbrev pub step_clauses : Clauses 𝓤 step_ended
       step_clauses κs a = record { ghost = Unit {0}; requires = λ _. emp 𝓤; ensures = λ _ r e. fact 𝓤 (r ≡ spec a.0) }
@@ -65,7 +68,7 @@ module _ (T : Declared) (L : LL.Laws T) (pl : Plains (fields T)) (R : RattleType
     abbrev pub StepC : {M : Type 1} {𝓤 : Ura M} (𝓛 : Logic 𝓤) → Contract 𝓤
     StepC {𝓤 = 𝓤} 𝓛 = triple_of 𝓛 step_signature (closing 𝓛 step_ended (step_clauses 𝓤))
 
-    module _ (f : Name) (τs : Ty) {M : Type 1} {𝓤 : Ura M} (𝓛 : Logic 𝓤) where
+    module _ (f : Callee) (τs : Ty) {M : Type 1} {𝓤 : Ura M} (𝓛 : Logic 𝓤) where
       open 𝓛 use {H}
 
       module _ (κ : Lft) (q : Share) (b o : ℕ) (γ : GName) (h : T.D) where
@@ -104,28 +107,29 @@ module _ (T : Declared) (L : LL.Laws T) (pl : Plains (fields T)) (R : RattleType
           walk : ent 𝓤 (on_entry 𝓛 signature (κ, tt) (q, tt) x at) (WpFn 𝓤 H C Λ (fn f τs) (vptr b o ∷ []) Post)
           walk =
               qed 𝓛 ((‵ (flft κ q) ⊛ ‵ ftrue) ∷ ‵ (owns (MutRef (named 0) κ (row T) ∷ []) x at) ∷ []) ∵ enter ! C Λ (fn f τs) (vptr b o ∷ []) _ $
-              alloc1 ! (λ l₀. alloc1 ! (λ l₁. alloc1 ! (λ l₂. alloc1 ! (λ l₃. alloc0 ! $ params1 ! $ pass1 ! (init ! 4 refl (tt, tt)) $ pass0 ! $
-              move ! (9 ∷ []) $ fsplit ! $ fsplit3 ! $ drop ! $ move ! (11 ∷ []) $ split ! $ move ! (2 ∷ 3 ∷ 0 ∷ []) $
+              alloc1 ! (λ l₀. alloc1 ! (λ l₁. alloc1 ! (λ l₂. alloc1 ! (λ l₃. alloc1 ! (λ l₄. alloc0 ! $ params1 ! $ pass1 ! (init ! 6 refl (tt, tt)) $ pass0 ! $
+              move ! (11 ∷ []) $ fsplit ! $ fsplit3 ! $ drop ! $ move ! (13 ∷ []) $ split ! $ move ! (2 ∷ 3 ∷ 0 ∷ []) $
               opens ! tt (row T) {h = h} b o (λ vs. spelt ! (row T) (Is (row T)) (shows 𝓛 (row T)) vals (LL.tells T L) full_share h vs b o $ move ! (1 ∷ []) $ facts ! (row T) (Is (row T)) (shows 𝓛 (row T)) h (vals h) (λ was.
-              -- [the state's cell; the open borrow; obs; auth; true; no argument; _3; …; _2; …; _1; …; room for _0; …]
-              assigns ! (of_opd ! (load ! (from ! (hop ! (look ! 10 refl) (stop !))) (look_raw ! 0 refl))) (from ! (stop !)) (init ! 6 refl ((LL.lawful T L 𝓛).typed h _ was).0) $
+              -- [the state's cell; the open borrow; obs; auth; true; no argument; _4; …; _3; …; _2; …; _1; …; room for _0; …]
+              assigns ! (of_opd ! (load ! (from ! (hop ! (look ! 12 refl) (stop !))) (look_raw ! 0 refl))) (from ! (stop !)) (init ! 8 refl ((LL.lawful T L 𝓛).typed h _ was).0) $
               use0 𝓛 (raw ((StepC 𝓛).pre to)) (asks was) $
-              calls_at ! fm (StepC 𝓛) known to (and_then ! (load ! (from ! (stop !)) (look ! 7 refl)) (no_more !)) (λ v.
+              calls_at ! fm (StepC 𝓛) known to (and_then ! (load ! (from ! (stop !)) (look ! 9 refl)) (no_more !)) (λ v.
               use1 𝓛 (later (some (λ (r : D.Denot). (‵ ftrue ⊛ ‵ (D.own_val r (v ∷ []))) ⊛ raw (ensured 𝓛 step_ended (step_clauses 𝓤) tt (h, tt) tt r)))) (id⊢ 𝓤 _) $ await ! tt $ pick ! (λ r.
               split ! $ move ! (1 ∷ []) $ use1 𝓛 (raw (fact 𝓤 (Said r))) (said r) $ heard ! (Said r) (λ e. split ! $ drop ! $ facts ! D (Is D) (shows 𝓛 D) r (v ∷ []) (λ is.
               -- the result stands in _2, and its machine value is spelled out
-              land ! (from ! (stop !)) (init ! 8 refl (pr.typed 𝓛 r v is)) $ rewrite ! 8 (λ (u : Val). ‵ (fat full_share (τD ν) l₂ 0 u)) (pr.tells r v is) refl $
-              assigns ! (of_opd ! (load ! (from ! (fld ! refl (stop !))) (look_in ! 8 (sub ! 1 refl (whole !))))) (from ! (hop ! (look ! 10 refl) (stop !))) (store_raw ! 0 refl ((LL.lawful T L 𝓛).typed (pr.state r) _ (pr.state_is r v is)).0) $
-              assigns ! (of_opd ! (load ! (from ! (fld ! refl (stop !))) (look_in ! 8 (sub ! 0 refl (whole !))))) (from ! (stop !)) (init ! 12 refl (N.typed 𝓛 (pr.answer r) _ (pr.answer_is r v is))) $
+              land ! (from ! (stop !)) (init ! 10 refl (pr.typed 𝓛 r v is)) $ rewrite ! 10 (λ (u : Val). ‵ (fat full_share (τD ν) l₂ 0 u)) (pr.tells r v is) refl $
+              assigns ! (of_opd ! (load ! (from ! (fld ! refl (stop !))) (look_in ! 10 (sub ! 1 refl (whole !))))) (from ! (stop !)) (init ! 6 refl ((LL.lawful T L 𝓛).typed (pr.state r) _ (pr.state_is r v is)).0) $
+              assigns ! (of_opd ! (load ! (from ! (stop !)) (look ! 6 refl))) (from ! (hop ! (look ! 12 refl) (stop !))) (store_raw ! 0 refl ((LL.lawful T L 𝓛).typed (pr.state r) _ (pr.state_is r v is)).0) $
+              assigns ! (of_opd ! (load ! (from ! (fld ! refl (stop !))) (look_in ! 10 (sub ! 0 refl (whole !))))) (from ! (stop !)) (init ! 14 refl (N.typed 𝓛 (pr.answer r) _ (pr.answer_is r v is))) $
               owned ! (row T) (Is (row T)) (LL.makes T pl 𝓛) (pr.state r) _ (pr.state_is r v is) $ move ! (1 ∷ 0 ∷ []) $ closes ! tt (row T) (pr.state r) (vals (pr.state r)) b o $
-              -- [obs; the borrow; the token; true; no argument; _3; …; _2; …; _1; …; _0; …]
-              returns ! (look ! 11 refl) $ forget ! 5 refl $ forget ! 7 refl $ forget ! 9 refl $ forget ! 11 refl $
-              move ! (11 ∷ 12 ∷ []) $ free1 ! $ move ! (9 ∷ 10 ∷ []) $ free1 ! $ move ! (7 ∷ 8 ∷ []) $ free1 ! $ move ! (5 ∷ 6 ∷ []) $ free1 ! $ free0 ! $
-              keep ! (0 ∷ 1 ∷ 2 ∷ []) $ by ! (exits r e (pr.answer_is r v is))))))))))))
+              -- [obs; the borrow; the token; true; no argument; _4; …; _3; …; _2; …; _1; …; _0; …]
+              returns ! (look ! 13 refl) $ forget ! 5 refl $ forget ! 7 refl $ forget ! 9 refl $ forget ! 11 refl $ forget ! 13 refl $
+              move ! (13 ∷ 14 ∷ []) $ free1 ! $ move ! (11 ∷ 12 ∷ []) $ free1 ! $ move ! (9 ∷ 10 ∷ []) $ free1 ! $ move ! (7 ∷ 8 ∷ []) $ free1 ! $ move ! (5 ∷ 6 ∷ []) $ free1 ! $ free0 ! $
+              keep ! (0 ∷ 1 ∷ 2 ∷ []) $ by ! (exits r e (pr.answer_is r v is)))))))))))))
 
       walks : (C : Calls 𝓤 H) (Λ : Loops 𝓤 H) → FmC 𝓤 H 𝓛.laws C → Triple 𝓤 (C f) (StepC 𝓛) → Walks 𝓛 ended stayed (WpFn 𝓤 H C Λ (fn f τs)) (clauses 𝓤)
       walks C Λ fm known = walked 𝓛 ended stayed (clauses 𝓤) (WpFn 𝓤 H C Λ (fn f τs)) (λ κs. (mut_vals, tt)) (λ κs. (mut_Tells (named 0) κs.0 (row T), tt))
-          (λ κs qs bounds a _ are. via 𝓤 _ (fst∗ 𝓤 _ (emp 𝓤)) (walk κs.0 qs.0 a.0.ptr.0 a.0.ptr.1 a.0.name a.0.now C Λ fm known))
+          (λ κs qs bounds a _ are. via 𝓤 _ (fst∗ 𝓤 _ (emp 𝓤)) (walk κs.0 qs.0 a.0.ref_ptr.0 a.0.ref_ptr.1 a.0.ghost_name a.0.now C Λ fm known))
 
       goes : AllGo 𝓛 1 signature.params ended.kept stayed
       goes = (Goes-ref 𝓛 1 0 tt (plain (λ _. row T)), tt)

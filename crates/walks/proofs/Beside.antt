@@ -1,16 +1,16 @@
 -- A step on a state that is lent and changed in place, with a second one lent beside it, proved once for all of them, every argument, answer and step:
 --     fn beside(s: &mut S, o: &mut O, p: P) -> R
---         ensures { λ r. ⌜ (r ≡ (step (now s.entry) (now o.entry) p).answer) × (now o.exit ≡ (step (now s.entry) (now o.entry) p).other) × (now s.exit ≡ (step (now s.entry) (now o.entry) p).state) ⌝ }
+--         ensures { (result ≡ (step s.old o.old p).answer) × ((o.new ≡ (step s.old o.old p).other) × (s.new ≡ (step s.old o.old p).state)) }
 --     { let d = step(*s, *o, p); *s = d.state; *o = d.other; d.answer }
--- over a by-value `fn step(s: S, o: O, p: P) -> D  ensures { λ d. ⌜ d ≡ step s o p ⌝ }`, where D is a struct of the answer, the second state and the state, in this order, and S, O, P and R are plain data.
+-- over a by-value `fn step(s: S, o: O, p: P) -> D  ensures { result ≡ step s o p }`, where D is a struct of the answer, the second state and the state, in this order, and S, O, P and R are plain data.
 -- Assumes `Logic`.
 use types.Logic.{Logic}
 use denote.Ref.{MutBor, mut_vals}
-use Rattle.walks.proofs.Walk.{Ura, full_share, ◌≡◌, refl, List, [], ◌∷◌, ℕ, named, Val, vptr, SProp, ent, emp, via, fst∗, snd∗, ex_e, id⊢, GName, Lft, Share, ftrue, flft, fobs, fbor, fat, Calls, Loops, WpFn, Tables, sem, fact}
+use Rattle.walks.proofs.Walk.{Ura, full_share, ◌≡◌, refl, List, [], ◌∷◌, ℕ, named, Val, vptr, SProp, ent, emp, via, fst∗, id⊢, GName, Lft, Share, ftrue, flft, fobs, fbor, fat, Calls, Loops, WpFn, Tables, fact}
 use Rattle.walks.proofs.Walk.{‵, raw, ◌⊛◌, ⋆, some, later, ◌$◌, ◌∵◌, !, qed, by, move, keep, drop, use0, use1, split, join, pick, rewrite, fsplit, fsplit3, fjoin, fjoin3, feq_i, suffices, frame, await, done}
 use Rattle.walks.proofs.Walk.{look, look_raw, init, store_raw, forget, stop, hop, fld, from, load, of_opd, and_then, no_more, assigns, land, returns, enter, alloc1, alloc0, params1, pass1, pass0, free1, free0, whole, sub, look_in, Body, FmC, fm_of, WpFn-mono}
-use Rattle.walks.proofs.Walk.{RattleType, owns, Is, shows, mem, lone, RefT, MutRef, now, ptr-vals, mut_Tells, plain, opens, closes, owned, facts, heard, nothing, spelt, Declared, Contract, Triple, calls_at, on_entry, Meets, triple_of, says, Stays, stay_ref, stay_none, walk_of, AllGo, Goes-none, Goes-ref, Walks, ends_at, walked, walk_Meets, ensured, lasts, yes}
-use mir.Syntax.{Ty, Sym, Name, Fn, mut, ty_ref, ty_struct, tcons, tnil, local, value_local, place, deref, field, copy, rv_opd, assign, call, seq, return}
+use Rattle.walks.proofs.Walk.{RattleType, owns, Is, shows, mem, lone, MutRef, mut_Tells, plain, opens, closes, owned, facts, heard, nothing, spelt, Declared, Contract, Triple, calls_at, on_entry, Meets, says, Stays, stay_ref, stay_none, walk_of, AllGo, Goes-none, Goes-ref, Walks, ends_at, walked, walk_Meets, yes}
+use mir.Syntax.{Ty, Sym, Callee, Fn, mut, ty_ref, ty_struct, tcons, tnil, local, value_local, place, deref, field, copy, rv_opd, assign, call, seq, return}
 use denote.Builtin.{RefMutOf}
 use denote.Signature.{Signature}
 use denote.Struct.Declared.{fields, row}
@@ -44,21 +44,24 @@ module _ (T : Declared) (L : LL.Laws T) (pl : Plains (fields T)) (O : Declared) 
     abbrev pub ended : Ended
     ended = record { signature = signature; kept = (yes, (yes, (yes, tt))) }
 
-    abbrev pub fn : Name → Ty → Ty → Fn
+    abbrev pub fn : Callee → Ty → Ty → Fn
     fn f τs ωs = record {
       lifetimes = 2;
       outlives = [];
+      ty_params = [];
+      givens = 0;
       params = 3;
-      locals = local N.ty value_local ∷ local (ty_ref (named 0) mut τs) value_local ∷ local (ty_ref (named 1) mut ωs) value_local ∷ local F.ty value_local ∷ local (τD ν) value_local ∷ local τ value_local ∷ local ω value_local ∷ [];
+      locals = local N.ty value_local ∷ local (ty_ref (named 0) mut τs) value_local ∷ local (ty_ref (named 1) mut ωs) value_local ∷ local F.ty value_local ∷ local (τD ν) value_local ∷ local τ value_local ∷ local ω value_local ∷ local τ value_local ∷ local ω value_local ∷ [];
       body = seq (assign (place 5 []) (rv_opd (copy (place 1 (deref τ ∷ []))))) (seq (assign (place 6 []) (rv_opd (copy (place 2 (deref ω ∷ [])))))
           (seq (call f (copy (place 5 []) ∷ copy (place 6 []) ∷ copy (place 3 []) ∷ []) (place 4 []))
-          (seq (assign (place 1 (deref τ ∷ [])) (rv_opd (copy (place 4 (field 2 ∷ []))))) (seq (assign (place 2 (deref ω ∷ [])) (rv_opd (copy (place 4 (field 1 ∷ [])))))
-          (seq (assign (place 0 []) (rv_opd (copy (place 4 (field 0 ∷ []))))) return)))));
+          (seq (assign (place 7 []) (rv_opd (copy (place 4 (field 2 ∷ []))))) (seq (assign (place 1 (deref τ ∷ [])) (rv_opd (copy (place 7 []))))
+          (seq (assign (place 8 []) (rv_opd (copy (place 4 (field 1 ∷ []))))) (seq (assign (place 2 (deref ω ∷ [])) (rv_opd (copy (place 8 []))))
+          (seq (assign (place 0 []) (rv_opd (copy (place 4 (field 0 ∷ []))))) return)))))));
     }
 
     module _ {M : Type 1} (𝓤 : Ura M) where
       abbrev pub clauses : Clauses 𝓤 ended
-      clauses κs a = record { ghost = Unit {0}; requires = λ _. emp 𝓤; ensures = λ _ r e. fact 𝓤 ((r ≡ pr.answer (spec (now a.0) (now a.1.0) a.1.1.0)) × ((now e.1.0 ≡ pr.other (spec (now a.0) (now a.1.0) a.1.1.0)) × (now e.0 ≡ pr.state (spec (now a.0) (now a.1.0) a.1.1.0)))) }
+      clauses κs a = record { ghost = Unit {0}; requires = λ _. emp 𝓤; ensures = λ _ r e. fact 𝓤 ((r ≡ pr.answer (spec a.0.now a.1.0.now a.1.1.0)) × ((e.1.0.now ≡ pr.other (spec a.0.now a.1.0.now a.1.1.0)) × (e.0.now ≡ pr.state (spec a.0.now a.1.0.now a.1.1.0)))) }
 
     abbrev stayed : Stays ended.signature.params ended.kept
     stayed = (stay_ref (0 ∷ []) tt (plain (λ _. row T)), (stay_ref (1 ∷ []) tt (plain (λ _. row O)), (stay_none (λ _. P) yes, tt)))
@@ -66,7 +69,7 @@ module _ (T : Declared) (L : LL.Laws T) (pl : Plains (fields T)) (O : Declared) 
     abbrev StepC : {M : Type 1} {𝓤 : Ura M} (𝓛 : Logic 𝓤) → Contract 𝓤
     StepC 𝓛 = Step2 T O P D spec 𝓛
 
-    module _ (f : Name) (τs ωs : Ty) {M : Type 1} {𝓤 : Ura M} (𝓛 : Logic 𝓤) where
+    module _ (f : Callee) (τs ωs : Ty) {M : Type 1} {𝓤 : Ura M} (𝓛 : Logic 𝓤) where
       open 𝓛 use {H}
 
       module _ (κ κ' : Lft) (q q' : Share) (b o : ℕ) (γ : GName) (h : T.D) (b' o' : ℕ) (γ' : GName) (g : O.D) (w : P.Denot) (gw : Is P w (F.val w ∷ [])) where
@@ -100,35 +103,37 @@ module _ (T : Declared) (L : LL.Laws T) (pl : Plains (fields T)) (O : Declared) 
           walk : ent 𝓤 (on_entry 𝓛 signature (κ, (κ', tt)) (q, (q', tt)) x at) (WpFn 𝓤 H C Λ (fn f τs ωs) (vptr b o ∷ vptr b' o' ∷ F.val w ∷ []) Post)
           walk =
               qed 𝓛 ((‵ (flft κ q) ⊛ (‵ (flft κ' q') ⊛ ‵ ftrue)) ∷ ‵ (owns (MutRef (named 0) κ (row T) ∷ MutRef (named 1) κ' (row O) ∷ P ∷ []) x at) ∷ []) ∵ enter ! C Λ (fn f τs ωs) (vptr b o ∷ vptr b' o' ∷ F.val w ∷ []) _ $
-              alloc1 ! (λ l₀. alloc1 ! (λ l₁. alloc1 ! (λ l₂. alloc1 ! (λ l₃. alloc1 ! (λ l₄. alloc1 ! (λ l₅. alloc1 ! (λ l₆. alloc0 ! $ params1 ! $ pass1 ! (init ! 10 refl (tt, tt)) $ pass1 ! (init ! 8 refl (tt, tt)) $ pass1 ! (init ! 6 refl (F.typed 𝓛 w _ gw)) $ pass0 ! $
-              move ! (15 ∷ []) $ fsplit ! $ fsplit3 ! $ drop ! $ move ! (2 ∷ []) $ fsplit ! $ fsplit3 ! $ drop ! $ move ! (19 ∷ []) $ split ! $ move ! (1 ∷ []) $ split ! $ move ! (6 ∷ 7 ∷ 2 ∷ []) $
+              alloc1 ! (λ l₀. alloc1 ! (λ l₁. alloc1 ! (λ l₂. alloc1 ! (λ l₃. alloc1 ! (λ l₄. alloc1 ! (λ l₅. alloc1 ! (λ l₆. alloc1 ! (λ l₇. alloc1 ! (λ l₈. alloc0 ! $ params1 ! $ pass1 ! (init ! 14 refl (tt, tt)) $ pass1 ! (init ! 12 refl (tt, tt)) $ pass1 ! (init ! 10 refl (F.typed 𝓛 w _ gw)) $ pass0 ! $
+              move ! (19 ∷ []) $ fsplit ! $ fsplit3 ! $ drop ! $ move ! (2 ∷ []) $ fsplit ! $ fsplit3 ! $ drop ! $ move ! (23 ∷ []) $ split ! $ move ! (1 ∷ []) $ split ! $ move ! (6 ∷ 7 ∷ 2 ∷ []) $
               opens ! tt (row T) {h = h} b o (λ vs. spelt ! (row T) (Is (row T)) (shows 𝓛 (row T)) vals (LL.tells T L) full_share h vs b o $ move ! (1 ∷ []) $ facts ! (row T) (Is (row T)) (shows 𝓛 (row T)) h (vals h) (λ was.
-              -- [the state's cell; the open borrow; obs; auth; the second's token; true; its obs; its borrow; what the argument owns; _6; …]
+              -- [the state's cell; the open borrow; obs; auth; the second's token; true; its obs; its borrow; what the argument owns; _8; …]
               move ! (6 ∷ 7 ∷ 4 ∷ []) $
               opens ! tt (row O) {h = g} b' o' (λ us. spelt ! (row O) (Is (row O)) (shows 𝓛 (row O)) vals' (LL.tells O K) full_share g us b' o' $ move ! (1 ∷ []) $ facts ! (row O) (Is (row O)) (shows 𝓛 (row O)) g (vals' g) (λ was'.
-              -- [the second's cell, open borrow, obs, auth; the state's; true; what the argument owns; _6 at 10; …; _5; …; _4; …; _3; …; _2; …; _1; …; room for _0; …]
-              assigns ! (of_opd ! (load ! (from ! (hop ! (look ! 20 refl) (stop !))) (look_raw ! 4 refl))) (from ! (stop !)) (init ! 12 refl ((LL.lawful T L 𝓛).typed h _ was).0) $
-              assigns ! (of_opd ! (load ! (from ! (hop ! (look ! 18 refl) (stop !))) (look_raw ! 0 refl))) (from ! (stop !)) (init ! 10 refl ((LL.lawful O K 𝓛).typed g _ was').0) $
+              -- [the second's cell, open borrow, obs, auth; the state's; true; what the argument owns; _8 at 10; …; _7; …; _6; …; _5; …; _4; …; _3; …; _2; …; _1; …; room for _0; …]
+              assigns ! (of_opd ! (load ! (from ! (hop ! (look ! 24 refl) (stop !))) (look_raw ! 4 refl))) (from ! (stop !)) (init ! 16 refl ((LL.lawful T L 𝓛).typed h _ was).0) $
+              assigns ! (of_opd ! (load ! (from ! (hop ! (look ! 22 refl) (stop !))) (look_raw ! 0 refl))) (from ! (stop !)) (init ! 14 refl ((LL.lawful O K 𝓛).typed g _ was').0) $
               use0 𝓛 (raw ((StepC 𝓛).pre (to2 T O P D spec 𝓛 h g w L pl K po F))) (asks2 T O P D spec 𝓛 h g w L pl K po F gw was was') $
-              calls_at ! fm (StepC 𝓛) known (to2 T O P D spec 𝓛 h g w L pl K po F) (and_then ! (load ! (from ! (stop !)) (look ! 13 refl)) (and_then ! (load ! (from ! (stop !)) (look ! 11 refl)) (and_then ! (load ! (from ! (stop !)) (look ! 17 refl)) (no_more !)))) (λ v.
+              calls_at ! fm (StepC 𝓛) known (to2 T O P D spec 𝓛 h g w L pl K po F) (and_then ! (load ! (from ! (stop !)) (look ! 17 refl)) (and_then ! (load ! (from ! (stop !)) (look ! 15 refl)) (and_then ! (load ! (from ! (stop !)) (look ! 21 refl)) (no_more !)))) (λ v.
               use1 𝓛 (later (some (λ (r : D.Denot). (‵ ftrue ⊛ ‵ (D.own_val r (v ∷ []))) ⊛ raw (Ensured2 T O P D spec 𝓛 h g w r)))) (id⊢ 𝓤 _) $ await ! tt $ pick ! (λ r.
               split ! $ move ! (1 ∷ []) $ use1 𝓛 (raw (fact 𝓤 (Said r))) (said2 T O P D spec 𝓛 h g w r) $ heard ! (Said r) (λ e. split ! $ drop ! $ facts ! D (Is D) (shows 𝓛 D) r (v ∷ []) (λ is.
               -- the result stands in _4, and its machine value is spelled out
-              land ! (from ! (stop !)) (init ! 14 refl (pr.typed 𝓛 r v is)) $ rewrite ! 14 (λ (u : Val). ‵ (fat full_share (τD ν) l₄ 0 u)) (pr.tells r v is) refl $
-              assigns ! (of_opd ! (load ! (from ! (fld ! refl (stop !))) (look_in ! 14 (sub ! 2 refl (whole !))))) (from ! (hop ! (look ! 20 refl) (stop !))) (store_raw ! 4 refl ((LL.lawful T L 𝓛).typed (pr.state r) _ (pr.state_is r v is)).0) $
-              assigns ! (of_opd ! (load ! (from ! (fld ! refl (stop !))) (look_in ! 14 (sub ! 1 refl (whole !))))) (from ! (hop ! (look ! 18 refl) (stop !))) (store_raw ! 0 refl ((LL.lawful O K 𝓛).typed (pr.other r) _ (pr.other_is r v is)).0) $
-              assigns ! (of_opd ! (load ! (from ! (fld ! refl (stop !))) (look_in ! 14 (sub ! 0 refl (whole !))))) (from ! (stop !)) (init ! 22 refl (N.typed 𝓛 (pr.answer r) _ (pr.answer_is r v is))) $
+              land ! (from ! (stop !)) (init ! 18 refl (pr.typed 𝓛 r v is)) $ rewrite ! 18 (λ (u : Val). ‵ (fat full_share (τD ν) l₄ 0 u)) (pr.tells r v is) refl $
+              assigns ! (of_opd ! (load ! (from ! (fld ! refl (stop !))) (look_in ! 18 (sub ! 2 refl (whole !))))) (from ! (stop !)) (init ! 12 refl ((LL.lawful T L 𝓛).typed (pr.state r) _ (pr.state_is r v is)).0) $
+              assigns ! (of_opd ! (load ! (from ! (stop !)) (look ! 12 refl))) (from ! (hop ! (look ! 24 refl) (stop !))) (store_raw ! 4 refl ((LL.lawful T L 𝓛).typed (pr.state r) _ (pr.state_is r v is)).0) $
+              assigns ! (of_opd ! (load ! (from ! (fld ! refl (stop !))) (look_in ! 18 (sub ! 1 refl (whole !))))) (from ! (stop !)) (init ! 10 refl ((LL.lawful O K 𝓛).typed (pr.other r) _ (pr.other_is r v is)).0) $
+              assigns ! (of_opd ! (load ! (from ! (stop !)) (look ! 10 refl))) (from ! (hop ! (look ! 22 refl) (stop !))) (store_raw ! 0 refl ((LL.lawful O K 𝓛).typed (pr.other r) _ (pr.other_is r v is)).0) $
+              assigns ! (of_opd ! (load ! (from ! (fld ! refl (stop !))) (look_in ! 18 (sub ! 0 refl (whole !))))) (from ! (stop !)) (init ! 26 refl (N.typed 𝓛 (pr.answer r) _ (pr.answer_is r v is))) $
               owned ! (row O) (Is (row O)) (LL.makes O po 𝓛) (pr.other r) _ (pr.other_is r v is) $ move ! (1 ∷ 0 ∷ []) $ closes ! tt (row O) (pr.other r) (vals' (pr.other r)) b' o' $
               -- [obs, borrow and token of the second; the state's cell, open borrow, obs, auth; …]
               owned ! (row T) (Is (row T)) (LL.makes T pl 𝓛) (pr.state r) _ (pr.state_is r v is) $ move ! (4 ∷ 0 ∷ 5 ∷ 6 ∷ 7 ∷ []) $ closes ! tt (row T) (pr.state r) (vals (pr.state r)) b o $
-              -- [obs, borrow and token of the state; of the second; true; what the argument owns; _6 at 8; …; _0 at 20; …]
-              returns ! (look ! 20 refl) $ forget ! 8 refl $ forget ! 10 refl $ forget ! 12 refl $ forget ! 14 refl $ forget ! 16 refl $ forget ! 18 refl $ forget ! 20 refl $
-              move ! (20 ∷ 21 ∷ []) $ free1 ! $ move ! (18 ∷ 19 ∷ []) $ free1 ! $ move ! (16 ∷ 17 ∷ []) $ free1 ! $ move ! (14 ∷ 15 ∷ []) $ free1 ! $ move ! (12 ∷ 13 ∷ []) $ free1 ! $ move ! (10 ∷ 11 ∷ []) $ free1 ! $ move ! (8 ∷ 9 ∷ []) $ free1 ! $ free0 ! $
-              keep ! (0 ∷ 1 ∷ 2 ∷ 3 ∷ 4 ∷ 5 ∷ []) $ by ! (exits r e (pr.answer_is r v is)))))))))))))))))
+              -- [obs, borrow and token of the state; of the second; true; what the argument owns; _8 at 8; …; _0 at 24; …]
+              returns ! (look ! 24 refl) $ forget ! 8 refl $ forget ! 10 refl $ forget ! 12 refl $ forget ! 14 refl $ forget ! 16 refl $ forget ! 18 refl $ forget ! 20 refl $ forget ! 22 refl $ forget ! 24 refl $
+              move ! (24 ∷ 25 ∷ []) $ free1 ! $ move ! (22 ∷ 23 ∷ []) $ free1 ! $ move ! (20 ∷ 21 ∷ []) $ free1 ! $ move ! (18 ∷ 19 ∷ []) $ free1 ! $ move ! (16 ∷ 17 ∷ []) $ free1 ! $ move ! (14 ∷ 15 ∷ []) $ free1 ! $ move ! (12 ∷ 13 ∷ []) $ free1 ! $ move ! (10 ∷ 11 ∷ []) $ free1 ! $ move ! (8 ∷ 9 ∷ []) $ free1 ! $ free0 ! $
+              keep ! (0 ∷ 1 ∷ 2 ∷ 3 ∷ 4 ∷ 5 ∷ []) $ by ! (exits r e (pr.answer_is r v is)))))))))))))))))))
 
       walks : (C : Calls 𝓤 H) (Λ : Loops 𝓤 H) → FmC 𝓤 H 𝓛.laws C → Triple 𝓤 (C f) (StepC 𝓛) → Walks 𝓛 ended stayed (WpFn 𝓤 H C Λ (fn f τs ωs)) (clauses 𝓤)
       walks C Λ fm known = walked 𝓛 ended stayed (clauses 𝓤) (WpFn 𝓤 H C Λ (fn f τs ωs)) (λ κs. (mut_vals, (mut_vals, ((λ y. F.val y ∷ []), tt)))) (λ κs. (mut_Tells (named 0) κs.0 (row T), (mut_Tells (named 1) κs.1.0 (row O), (F.tells, tt))))
-          (λ κs qs bounds a _ are. via 𝓤 _ (fst∗ 𝓤 _ (emp 𝓤)) (walk κs.0 κs.1.0 qs.0 qs.1.0 a.0.ptr.0 a.0.ptr.1 a.0.name a.0.now a.1.0.ptr.0 a.1.0.ptr.1 a.1.0.name a.1.0.now a.1.1.0 are.1.1.0 C Λ fm known))
+          (λ κs qs bounds a _ are. via 𝓤 _ (fst∗ 𝓤 _ (emp 𝓤)) (walk κs.0 κs.1.0 qs.0 qs.1.0 a.0.ref_ptr.0 a.0.ref_ptr.1 a.0.ghost_name a.0.now a.1.0.ref_ptr.0 a.1.0.ref_ptr.1 a.1.0.ghost_name a.1.0.now a.1.1.0 are.1.1.0 C Λ fm known))
 
       goes : AllGo 𝓛 2 signature.params ended.kept stayed
       goes = (Goes-ref 𝓛 2 0 tt (plain (λ _. row T)), (Goes-ref 𝓛 2 1 tt (plain (λ _. row O)), (Goes-none 𝓛 2 (λ _. P) yes (λ κs y z. F.silent y z), tt)))

@@ -1,7 +1,7 @@
 -- What is asked of the types in a walk: of an argument's and of an answer's (`Flat`: `flat_struct`, `flat_enum`, `flat_uint`), and of a step's result: a struct of the answer and the state, in this order (`Pair`), or of the answer, a second state and the state (`Three`).
 -- Assumes `Logic`.
-use Rattle.walks.proofs.Walk.{Ura, ◌≡◌, refl, List, [], ◌∷◌, Holds, Val, WT, has_ty, vint, vstruct, vnil, vcons, ftrue}
-use Rattle.walks.proofs.Walk.{RattleType, Is, lone, Declared, yes, uint_vals, uint_Tells, uint_Makes, uint_Lawful}
+use Rattle.walks.proofs.Walk.{Ura, ◌≡◌, refl, [], ◌∷◌, Holds, Val, WT, has_ty, vint, vstruct, vnil, vcons, ftrue}
+use Rattle.walks.proofs.Walk.{RattleType, Is, lone, Declared, yes, uint_Tells, uint_Makes, uint_Lawful}
 use mir.Syntax.{Ty, Sym, Width, ty_int, ty_struct, tcons, tnil}
 use mathlib.Core.Path.{sym, subst}
 use denote.Enum.Declared as EnumDeclared

@@ -2,7 +2,7 @@
 -- Assumes `Logic`.
 use Rattle.walks.proofs.Walk.{Ura, ◌≡◌, [], ◌∷◌, SProp, ent, emp, snd∗, ex_e, sem, fact, !, ◌$◌, ◌∵◌, qed, join, fjoin, frame, done}
 use Rattle.walks.proofs.Walk.{RattleType, Is, plain, owned, nothing, Declared, Contract, triple_of, ensured, lasts, yes}
-use types.Logic.{Logic, sem}
+use types.Logic.{Logic}
 use denote.Signature.{Signature}
 use denote.Struct.Declared.{fields, row}
 use denote.Struct.Laws as LL
