@@ -9,15 +9,15 @@ use Rattle.text.proofs.numeral.put_decimal.Goals as goal
 pub put_bytes-requires : goal.put_bytes-requires
 put_bytes-requires c =
     let d = c.decimal-count in
-    let few = decimal_few c.args.value d.result d.ensures.1.0 (search rules) in
-    omega (arith, d.ensures.0.1)
+    let few = decimal_few c.args.value d.result d.ensures.len (search rules) in
+    omega (arith, d.ensures.in_bounds)
 
 pub returns : goal.returns
 unfolding decimal_of
 returns c =
     let a = c.args in
     let d = c.decimal-count in
-    let few = decimal_few a.value d.result d.ensures.1.0 (search rules) in
-    let e = decimal_places a.value d.result d.ensures.1.0 (search rules) in
+    let few = decimal_few a.value d.result d.ensures.len (search rules) in
+    let e = decimal_places a.value d.result d.ensures.len (search rules) in
     let p = c.put_bytes.ensures in
-    (omega (arith, p.0, d.ensures.0.1, few), p.1 ∙ rw (d.ensures.1.1, e))
+    (omega (arith, p.0, d.ensures.in_bounds, few), p.1 ∙ rw (d.ensures.digits, e))
