@@ -1,5 +1,5 @@
 -- What a slot's constructor gives.
-use Prim.Native.Nat.{ℕ, ◌+◌, ◌%◌, ◌<◌, ◌≤◌}
+use Prim.Native.Nat.{ℕ, ◌<◌, ◌≤◌}
 use mathlib.Core.Bool.{Bool, true, false, cond}
 use mathlib.Core.Path.{◌≡◌, refl}
 use borrow.Author.Tests.{lt-ltb, le-ltb, ltb-true}
@@ -7,9 +7,8 @@ use native.Mathlib.Nat.{mod-lt}
 use native.Mathlib.Omega.{arith}
 use lib.Dec.{ltb}
 use Rattle.address.specs.Layout.{bar_count}
-use Rattle.address.specs.Kinds.{slot, slot_of, index_of, register_of}
+use Rattle.address.specs.Kinds.{slot, slot_of, index_of}
 use Rattle.address.specs.declared.slot.Slot.{Slot}
-use Rattle.address.specs.declared.slot.SlotAnswer.{SlotAnswer}
 use Rattle.address.specs.declared.slot.SlotAnswer.TheVariants as slot_answer
 
 pub slot_good : (v : ℕ) → v < bar_count → slot_of v ≡ slot_answer.Good (slot v)

@@ -1,13 +1,13 @@
 -- Ranges: what it means to meet, to lie in the aperture, to be a multiple.
-use Prim.Native.Nat.{ℕ, ◌+◌, ◌-◌, ◌%◌, ◌<◌, ◌≤◌, min, max}
+use Prim.Native.Nat.{ℕ, ◌-◌, ◌%◌, ◌<◌, ◌≤◌, min, max}
 use mathlib.Core.Bool.{Bool, true, false, ◌&&◌, cond, and-false}
-use mathlib.Core.Path.{◌≡◌, refl, sym, ◌∙◌}
+use mathlib.Core.Path.{◌≡◌, refl}
 use borrow.Author.Tests.{lt-ltb, le-ltb, le-leb, lt-leb, eq-eqb, ltb-true, leb-true, eqb-true}
 use native.Mathlib.Omega.{arith}
-use lib.Dec.{ltb, leb, eqb}
+use lib.Dec.{ltb, leb}
 use Rattle.word.proofs.Tests.{and_left, and_right, same_test}
 use Rattle.word.proofs.Intervals.{covers_in, covers_within, Meeting, overlap_meeting, meeting_overlap, overlap_common, common_overlap, overlap_sym, overlap_not, apart_overlap}
-use Rattle.bar.specs.Range.{range, end_of, multiple, lies_in, meets, aperture_of}
+use Rattle.bar.specs.Range.{end_of, multiple, lies_in, meets, aperture_of}
 use Rattle.bar.specs.declared.range.Range.{Range}
 use Rattle.bar.specs.declared.range.Aperture.{Aperture}
 use Rattle.bar.specs.declared.range.ApertureAnswer.TheVariants as aperture_answer

@@ -1,12 +1,11 @@
 -- A BAR's register: which dwords are addresses, and what they ask for.
-use Prim.Native.Nat.{ℕ, ◌+◌, ◌-◌, ◌*◌, ◌/◌, ◌%◌, ◌^◌, ◌<◌, ◌≤◌}
+use Prim.Native.Nat.{ℕ, ◌+◌, ◌-◌, ◌*◌, ◌/◌, ◌%◌, ◌<◌, ◌≤◌}
 use mathlib.Core.Bool.{Bool, true, false, cond}
 use mathlib.Core.Path.{◌≡◌, refl, sym, ap, ◌∙◌}
-use borrow.Author.Tests.{eq-eqb, ne_eqb, eqb-true}
+use borrow.Author.Tests.{ne_eqb}
 use native.Mathlib.Nat.{div-add-mod', mul_assoc, mul-mod_left}
 use native.Mathlib.Omega.{arith}
 use lib.Pow.{pow-add}
-use lib.Dec.{eqb}
 use Rattle.bar.specs.Range.{four_gib}
 use Rattle.bar.specs.Bar.{Sized}
 use Rattle.bar.specs.Register.{address_unit, size_mask, candidate, committed, starts_probe, class_of, Address}

@@ -7,7 +7,6 @@ use borrow.Author.Tests.{le-leb, lt-leb, eq-eqb, leb-true, eqb-true}
 use native.Mathlib.Omega.{arith}
 use lib.Dec.{leb, eqb}
 use lib.Pow.{pow_mono}
-use Rattle.word.specs.Search.{any_below}
 use Rattle.word.proofs.Tests.{and_left, and_right, below_or_not, same_test}
 use Rattle.word.proofs.Searches.{any_found, any_has_lem}
 use Rattle.address.specs.declared.slot.Slot.{Slot}

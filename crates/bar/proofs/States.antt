@@ -1,12 +1,12 @@
 -- A BAR's state: addresses stay below 4 GiB (the Rust's debug_assert), the plan stays, and what a write and a read of a whole register give.
-use Prim.Native.Nat.{ℕ, ◌%◌, ◌<◌, ◌≤◌}
+use Prim.Native.Nat.{ℕ, ◌%◌, ◌<◌}
 use mathlib.Core.Bool.{Bool, true, false}
-use mathlib.Core.Path.{◌≡◌, refl, sym, ap, ◌∙◌}
+use mathlib.Core.Path.{◌≡◌, refl, ap, ◌∙◌}
 use native.Mathlib.Omega.{arith}
 use Rattle.word.specs.Number.{merge}
 use Rattle.word.proofs.Merges.{merge_lt, merge_whole}
 use Rattle.bar.specs.Range.{four_gib}
-use Rattle.bar.specs.Register.{size_mask, candidate, committed, starts_probe, class_of, Address}
+use Rattle.bar.specs.Register.{size_mask, candidate, committed, starts_probe, Address}
 use Rattle.bar.specs.Bounded.{Bounded}
 use Rattle.bar.specs.State.{fresh, reset_of, shown, asks, probed, relocated}
 use Rattle.bar.specs.declared.bar_state.Plan.{Plan}

@@ -6,7 +6,7 @@ use Rattle.address.specs.Layout.{bar_count}
 use Rattle.config.specs.State.{slot_at}
 use Rattle.config.specs.Write.{write_of}
 use Rattle.config.specs.declared.state.FunctionState.{FunctionState}
-use Rattle.config.specs.declared.write_step.WriteAnswer.TheVariants.{Stored, Probing, Candidate, Effect, BadAccess, BadEffect, Exhausted}
+use Rattle.config.specs.declared.write_step.WriteAnswer.TheVariants.{Candidate}
 use Rattle.config.specs.declared.write_step.WriteDone.{WriteDone}
 use Rattle.config.proofs.Slots.{in_bar_slot}
 use Rattle.config.proofs.WriteCases.{write_by_lem}

@@ -1,5 +1,5 @@
 -- What a reset leaves: every function restored. On a sound bus every BAR is then as at power-on: where placement put it, and not probing.
-use Prim.Native.Nat.{ℕ, ◌<◌, ◌≤◌}
+use Prim.Native.Nat.{ℕ, ◌<◌}
 use mathlib.Core.Path.{◌≡◌, refl, sym, ◌∙◌}
 use native.Mathlib.Omega.{arith}
 use lib.ListN.{length}

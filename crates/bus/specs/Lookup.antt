@@ -1,5 +1,5 @@
 -- Memory lookup (document 01: "Memory lookup answers device, slot and offset exactly if the whole access lies in a BAR of a function with command bit 1 set; otherwise a miss").
-use Rattle.std.specs.Prelude.{ℕ, ◌+◌, ◌-◌, ◌/◌, ◌%◌, Bool, ◌&&◌, cond, ltb, leb, eqb, List}
+use Rattle.std.specs.Prelude.{ℕ, ◌+◌, ◌-◌, ◌/◌, ◌%◌, Bool, ◌&&◌, cond, leb, eqb, List}
 use Rattle.refusal.specs.Number.{accepted, bad_access}
 use Rattle.word.specs.Search.{first_of}
 use Rattle.word.specs.Table.{table}

@@ -1,6 +1,6 @@
 -- Every answer is the document's: all cases but one compute, and P9, where no address serves, is placement's own example.
 use mathlib.Core.List.{map}
-use mathlib.Core.Path.{◌≡◌, refl}
+use mathlib.Core.Path.{◌≡◌}
 use Rattle.word.specs.Table.{table, filled}
 use Rattle.word.specs.Search.{any_below, first_below, first_of, all_below}
 use Rattle.capability.specs.Declaration.{capability_of, none_declared}

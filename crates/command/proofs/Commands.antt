@@ -1,6 +1,6 @@
 -- A command from its arguments, each known by the one before it.
-use Prim.Native.Nat.{ℕ, ◌+◌, ◌<◌, ◌≤◌}
-use mathlib.Core.Bool.{Bool, true, false, cond}
+use Prim.Native.Nat.{ℕ}
+use mathlib.Core.Bool.{Bool, cond}
 use mathlib.Core.List.{List}
 use mathlib.Core.Path.{◌≡◌}
 use Rattle.command.specs.Command.{hex_after, decimal_after, ended_by, first_in, read_by, write_by, lookup_by, device_by}

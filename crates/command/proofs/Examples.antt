@@ -1,5 +1,5 @@
 -- The examples compute.
-use mathlib.Core.List.{List, map}
+use mathlib.Core.List.{map}
 use mathlib.Core.Path.{◌≡◌, refl}
 use Rattle.word.specs.Search.{first_below}
 use Rattle.command.specs.Numeral.{numeral_from, numeral_of}

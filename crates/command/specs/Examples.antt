@@ -1,6 +1,5 @@
 -- What some lines ask, as one statement over a list (proofs/Examples.antt proves it).
-use Rattle.std.specs.Prelude.{ℕ, List, [], ◌∷◌, map}
-use Rattle.command.specs.Command.{command_of}
+use Rattle.std.specs.Prelude.{ℕ, List, [], ◌∷◌}
 use Rattle.command.specs.declared.line.Command.{Command}
 use Rattle.command.specs.declared.line.Command.TheVariants.{Read, Write, Lookup, Reset, Enumerate, Revision, Dump, Unknown}
 

@@ -1,15 +1,13 @@
 -- A function goes to its place among the finished ones, and they ascend as before.
 use Prim.Native.Nat.{ℕ, ◌+◌, ◌-◌, ◌<◌, ◌≤◌}
-use mathlib.Core.Bool.{cond}
 use mathlib.Core.List.{List}
 use mathlib.Core.Logic.{⊎_elim}
-use mathlib.Core.Path.{◌≡◌, refl, ◌∙◌}
+use mathlib.Core.Path.{◌≡◌, ◌∙◌}
 use native.Mathlib.Omega.{arith}
-use borrow.Author.Tests.{lt-ltb, le-ltb, eq-eqb, ne_eqb, ltb-true, ltb-false}
-use lib.Dec.{ltb, eqb}
+use borrow.Author.Tests.{lt-ltb, ltb-true, ltb-false}
+use lib.Dec.{ltb}
 use lib.ListN.{length, get_or, length-replicate}
 use Rattle.word.proofs.Searches.{Least, least_is}
-use Rattle.word.proofs.Tables.{length_table, get_or_table}
 use Rattle.word.proofs.Tests.{below_or_not, same_or_not}
 use Rattle.address.specs.Limits.{function_room}
 use Rattle.config.specs.declared.function.Function.{Function}

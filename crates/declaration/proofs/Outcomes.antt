@@ -17,7 +17,6 @@ use Rattle.declaration.specs.Exactly.{FirstFails, all_checks, Reached, start, fi
 use Rattle.declaration.specs.Finished.{function_at, finished_so_far}
 use Rattle.declaration.specs.Reading.{reading, read_field, read_fields, fields_of}
 use Rattle.declaration.specs.declared.answer.Declared.{Declared}
-use Rattle.declaration.specs.declared.answer.DeclarationAnswer.TheVariants as answer
 use Rattle.declaration.specs.declared.answer.Place.TheVariants as place
 use Rattle.declaration.specs.declared.finished.Finished.{Finished}
 use Rattle.declaration.specs.declared.reading.Reading.{Reading}

@@ -22,7 +22,6 @@ use Rattle.declaration.specs.Answer.{accepted_with, refused_with, checked_whole}
 use Rattle.declaration.specs.Exactly.{bad_byte_at, FirstFault, repeated_id, past_end, bad_byte, Faultless}
 use Rattle.declaration.specs.Finished.{count_in, function_at}
 use Rattle.declaration.specs.Whole.{fault, fault_of, faulty}
-use Rattle.declaration.specs.declared.answer.DeclarationAnswer.TheVariants as answer
 use Rattle.declaration.specs.declared.answer.Place.TheVariants as place
 use Rattle.declaration.specs.declared.finished.Finished.{Finished}
 use Rattle.declaration.specs.declared.whole.Fault.{Fault}

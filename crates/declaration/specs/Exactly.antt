@@ -1,5 +1,5 @@
 -- Exactly when a file gets which answer, in the order and the words of document 01's table: proofs/Outcomes.antt shows that an outcome always holds, and that the answer is what it says.
-use Rattle.std.specs.Prelude.{ℕ, ◌<◌, Bool, true, false, cond, List, [], ◌∷◌, ◌++◌, ◌≡◌, eqb, length, get_or}
+use Rattle.std.specs.Prelude.{ℕ, ◌<◌, Bool, true, false, List, ◌++◌, ◌≡◌, length, get_or}
 use Rattle.refusal.specs.Number as number
 use Rattle.address.specs.Layout.{config_space_size}
 use Rattle.address.specs.Limits.{Limits}
@@ -18,7 +18,6 @@ use Rattle.declaration.specs.Row.{rule_checks}
 use Rattle.declaration.specs.Said.{said_of}
 use Rattle.declaration.specs.Take.{with_field}
 use Rattle.declaration.specs.declared.answer.Declared.{Declared}
-use Rattle.declaration.specs.declared.answer.DeclarationAnswer.TheVariants as answer
 use Rattle.declaration.specs.declared.answer.Place.TheVariants as place
 use Rattle.declaration.specs.declared.finished.Finished.{Finished}
 use Rattle.declaration.specs.declared.said.Said.{Said}

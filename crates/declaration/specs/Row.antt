@@ -1,5 +1,5 @@
 -- The rows of document 01's table that what a field says can meet, each as one question about it and about what is declared so far.
-use Rattle.std.specs.Prelude.{ℕ, Bool, true, false, not, ◌&&◌, ◌||◌, List, [], ◌∷◌, ltb, leb, eqb}
+use Rattle.std.specs.Prelude.{Bool, true, false, not, ◌||◌, List, [], ◌∷◌, leb, eqb}
 use Rattle.refusal.specs.Number as number
 use Rattle.word.specs.Search.{all_below}
 use Rattle.address.specs.Layout.{bar_count, absent_vendor_id}

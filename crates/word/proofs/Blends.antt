@@ -1,11 +1,11 @@
 -- One byte under a mask, bit by bit: where the mask has a one the bit is the value's, elsewhere the old one's.
-use Prim.Native.Nat.{ℕ, zero, suc, ◌+◌, ◌-◌, ◌*◌, ◌/◌, ◌%◌, ◌^◌, ◌<◌, ◌≤◌, min, max}
+use Prim.Native.Nat.{ℕ, zero, suc, ◌-◌, ◌/◌, ◌^◌, ◌<◌}
 use mathlib.Core.Bool.{cond}
-use mathlib.Core.Path.{◌≡◌, refl, sym, ap, ◌∙◌}
+use mathlib.Core.Path.{◌≡◌, refl, ◌∙◌}
 use native.Mathlib.Nat.{div-one, div-div-eq-div-mul, pow-succ', mod-lt}
 use native.Mathlib.Omega.{arith}
 use lib.Dec.{eqb}
-use lib.Bits.{bit_and, bit_or, and_shr, or_shr, and_mod, or_mod, and_mask, and_zero_r, or_zero_r, or_zero_l, or_lt, and_le_r, and_le_l}
+use lib.Bits.{bit_and, bit_or, and_shr, or_shr, and_mod, or_mod, and_mask, and_zero_r, or_zero_r, or_zero_l, or_lt, and_le_r}
 use Rattle.word.specs.Bit.{bit}
 use Rattle.word.specs.Store.{blend}
 

@@ -3,7 +3,7 @@ use Prim.Native.Nat.{ℕ, zero, suc, ◌+◌, ◌-◌, ◌*◌, ◌/◌, ◌%◌
 use mathlib.Core.List.{List, [], ◌∷◌}
 use mathlib.Core.Logic.{⊎_elim}
 use mathlib.Core.Path.{◌≡◌, refl, sym, ap, ◌∙◌}
-use native.Mathlib.Nat.{pow-suc, pow-succ', div-one, div-div-eq-div-mul, zero-div, pow-le-pow_right, lt_of_lt_of_le, one-le-pow, min-le_left, min-eq_left, min-eq_right, mod-lt}
+use native.Mathlib.Nat.{pow-suc, pow-succ', div-one, div-div-eq-div-mul, zero-div, pow-le-pow_right, lt_of_lt_of_le, one-le-pow, min-le_left, min-eq_left, min-eq_right}
 use native.Mathlib.Numerals.{add-one}
 use native.Mathlib.Omega.{arith}
 use lib.Arith.{mod-mul}
@@ -13,7 +13,7 @@ use lib.Seq.{drop-cons, get_or-drop, take-length, take_all, take-nil}
 use Rattle.word.specs.Table.{table}
 use Rattle.word.specs.Number.{number, part_of, byte_of, bytes_of, read_at}
 use Rattle.word.proofs.Tests.{below_or_not}
-use Rattle.word.proofs.Tables.{table_ext, length_table, get_or_table}
+use Rattle.word.proofs.Tables.{table_ext, get_or_table}
 
 -- the first k bytes of a list spell a number below 256 ^ k
 pub number_take_lt : (k : ℕ) (l : List ℕ) → ((i : ℕ) → get_or l i 0 < 256) → number (take k l) < 256 ^ k

@@ -1,12 +1,12 @@
 -- A read of bytes that are a number's.
-use Prim.Native.Nat.{ℕ, ◌+◌, ◌%◌, ◌^◌, ◌<◌, ◌≤◌, min}
+use Prim.Native.Nat.{ℕ, ◌+◌, ◌%◌, ◌^◌, ◌<◌, ◌≤◌}
 use mathlib.Core.List.{List}
-use mathlib.Core.Path.{◌≡◌, refl, sym, ap, ◌∙◌}
+use mathlib.Core.Path.{◌≡◌, sym, ◌∙◌}
 use native.Mathlib.Nat.{min-eq_left}
 use native.Mathlib.Omega.{arith}
 use lib.ListN.{length, get_or, take, drop, length-take, length-drop}
 use lib.Seq.{ext_get_or, get_or-take, get_or-drop}
-use Rattle.word.specs.Number.{number, byte_of, bytes_of, read_at}
+use Rattle.word.specs.Number.{byte_of, bytes_of, read_at}
 use Rattle.word.proofs.Tables.{length_table, get_or_table}
 use Rattle.word.proofs.Numbers.{number_bytes}
 

@@ -1,15 +1,14 @@
 -- Questions below a number: what some answer and what all answer, and the first that does, of which there is one.
 use Prim.Native.Nat.{ℕ, zero, suc, ◌+◌, ◌<◌, ◌≤◌}
-use mathlib.Core.Bool.{Bool, true, false, ◌&&◌, ◌||◌, cond, or-true}
+use mathlib.Core.Bool.{Bool, true, false, cond, or-true}
 use mathlib.Core.Logic.{◌⊎◌, inl, inr, ⊎_elim}
-use mathlib.Core.Path.{◌≡◌, refl, sym, ap, ◌∙◌}
+use mathlib.Core.Path.{◌≡◌, refl, sym, ◌∙◌}
 use native.Mathlib.Nat.{eq-or-lt_of_le}
 use native.Mathlib.Numerals.{add-one}
 use native.Mathlib.Omega.{arith}
-use borrow.Author.Tests.{lt-ltb, le-ltb, ltb-true, ltb-false}
-use lib.Dec.{ltb}
+use borrow.Author.Tests.{lt-ltb, le-ltb}
 use Rattle.word.specs.Search.{any_below, all_below, first_below, first_of}
-use Rattle.word.proofs.Tests.{true_or_false, below_or_not, both, never, and_left, and_right, or_cases}
+use Rattle.word.proofs.Tests.{below_or_not, both, never, and_left, and_right, or_cases}
 
 module _ (p : ℕ → Bool) where
   pub any_none : any_below p 0 ≡ false

@@ -1,5 +1,5 @@
 -- `check` refuses exactly what document 01 lists under 18.
-use mathlib.Core.Bool.{true, false}
+use mathlib.Core.Bool.{true}
 use mathlib.Core.Path.{◌≡◌, sym, ◌∙◌}
 use Rattle.word.specs.Width.{width_ok}
 use Rattle.word.proofs.Widths.{width_pos}

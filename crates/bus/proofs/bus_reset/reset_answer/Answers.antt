@@ -1,5 +1,3 @@
-use Prim.Native.Nat.{◌-◌}
-use mathlib.Core.Bool.{false}
 use mathlib.Core.Path.{◌≡◌, sym}
 use native.Mathlib.Omega.{arith}
 use lib.ListN.{length}
@@ -23,7 +21,6 @@ loop-k-init c = (c.count_on-count.ensures, omega arith, any_none (spent_at c.arg
 
 pub returns-then-function : goal.returns-then-function
 returns-then-function c =
-    
     let l = c.loop-k in
     let b = c.args.bus in
     sym (first_is (λ k. Exhausted (device_at b k)) Restored (spent_at b) (count_on b) l.k (record { below = omega (arith, l.invariant.0); before = any_never (spent_at b) l.k l.invariant.2; here = eq-eqb _ _ (rw (function_there b l.k (long (goal.at.returns-then-function c).Start) (omega (arith, l.invariant.0))) at c.if-function.true) }))

@@ -1,4 +1,3 @@
-use Prim.Native.Nat.{◌-◌}
 use mathlib.Core.Path.{◌≡◌, sym, ap, ◌∙◌}
 use native.Mathlib.Omega.{arith}
 use borrow.Author.Rules.{rules}
@@ -20,7 +19,6 @@ loop-k-init c = (omega arith, sym (reset_none _))
 pub loop-k-preserved : goal.loop-k-preserved
 loop-k-preserved c =
     let l = c.loop-k in
-    
     (omega arith, reset_more _ l.k l.out _ _ (omega (arith, long (goal.at.loop-k-preserved c).Start)) l.invariant.1 (ap (λ (d : ResetDone). d.state) c.reset-done.ensures ∙ reset_state _))
 
 pub returns : goal.returns

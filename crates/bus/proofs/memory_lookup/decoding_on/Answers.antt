@@ -1,4 +1,3 @@
-use Prim.Native.Nat.{◌-◌}
 use mathlib.Core.Bool.{false}
 use mathlib.Core.Path.{◌≡◌, ap, ◌∙◌}
 use native.Mathlib.Omega.{arith}
@@ -22,7 +21,6 @@ loop-k-init c = (omega arith, blank_filled function_room (λ j. decodes (functio
 pub loop-k-preserved : goal.loop-k-preserved
 loop-k-preserved c =
     let l = c.loop-k in
-    
     let b = c.args.bus in
     (omega arith, rw l.invariant.1 (filled_more function_room (λ j. decodes (function_at b j)) false l.k _ (omega arith) (c.decodes_memory.ensures ∙ ap decodes (function_there b l.k (long (goal.at.loop-k-preserved c).Start) (omega arith)))))
 

@@ -1,5 +1,3 @@
-use Prim.Native.Nat.{◌-◌}
-use mathlib.Core.Bool.{false}
 use mathlib.Core.Path.{◌≡◌, sym, ◌∙◌}
 use native.Mathlib.Omega.{arith}
 use Rattle.word.proofs.Searches.{any_none, any_more, any_never}
@@ -29,7 +27,6 @@ overflow_sub-result c =
 pub returns-then-held : goal.returns-then-held
 returns-then-held c =
     let l = c.loop-key in
-    
     rw (c.ranges_on-ranges.ensures, range_listed c.args.bus l.key (record { start = 0; size = 0 }) (omega arith))
     (sym (lookup_hit _ _ _ l.key (sym c.width_ok-known.ensures ∙ c.if-not-known.false) (record { below = omega arith; before = any_never (holds_at _ _ _) l.key l.invariant.1; here = sym (held (goal.at.returns-then-held c).After-holds-held) ∙ c.if-held.true })))
 
@@ -41,6 +38,5 @@ loop-key-preserved c =
 pub returns : goal.returns
 returns c =
     let l = c.loop-key in
-    
     let e : l.key ≡ key_count = omega arith in
     sym (lookup_miss _ _ _ (sym c.width_ok-known.ensures ∙ c.if-not-known.false) (any_never (holds_at _ _ _) key_count (rw e at l.invariant.1)))

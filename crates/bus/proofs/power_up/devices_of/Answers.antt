@@ -1,4 +1,4 @@
-use Prim.Native.Nat.{◌-◌, ◌<◌, min}
+use Prim.Native.Nat.{◌<◌, min}
 use mathlib.Core.Path.{◌≡◌, ap, ◌∙◌}
 use borrow.Author.Rules.{rules}
 use native.Mathlib.Omega.{arith}

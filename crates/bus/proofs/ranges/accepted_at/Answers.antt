@@ -16,5 +16,4 @@ long c = search (rules, long_unmapped)
 pub returns : goal.returns
 unfolding accepts
 returns c =
-    
     c.is_place.ensures ∙ rw (c.ranges_but-others.ensures, function_there c.args.bus c.args.k (long (goal.at.returns c).Start) (omega arith))

@@ -6,7 +6,6 @@ use Rattle.bus.proofs.read_access.absent_read.Goals as goal
 
 pub ones-requires : goal.ones-requires
 ones-requires c =
-    
     let r = access_is config_space_size _ _ _ _ (sym c.check.ensures ∙ c.in-Good.is) in
     rw r.2 r.0.known
 

@@ -15,14 +15,10 @@ long c = search (rules, long_unmapped)
 
 pub returns-then-k-count : goal.returns-then-k-count
 returns-then-k-count c =
-    
-    
     let b = c.args.bus in
     let h : c.index_of-k.result < function_room = omega (arith, c.count_on-count.ensures) in
     c.read.ensures ∙ rw (function_there b c.index_of-k.result (long (goal.at.returns-then-k-count c).Start) h) (read_at_lem b _ _ _ c.count_on-count.ensures c.index_of-k.ensures _ _ c.if-k-count.true)
 
 pub returns : goal.returns
 returns c =
-    
-    
     c.absent_read.ensures ∙ read_past c.args.bus _ _ _ c.count_on-count.ensures c.index_of-k.ensures _ _ c.if-k-count.false

@@ -22,7 +22,6 @@ as_stepped c = rw (c.write-step.ensures, function_there c.args.bus c.args.k (lon
 
 pub settle-requires : goal.settle-requires
 settle-requires c =
-    
     (search rules, candidate_slot _ _ _ _ _ _ (ap (λ (d : WriteDone). d.reply.answer) (sym c.write-step.ensures) ∙ c.in-Candidate.is))
 
 pub returns-in-Stored : goal.returns-in-Stored

@@ -1,5 +1,4 @@
 use Prim.Native.Nat.{◌-◌}
-use mathlib.Core.Bool.{false}
 use mathlib.Core.Path.{◌≡◌, sym, ◌∙◌}
 use native.Mathlib.Omega.{arith}
 use borrow.Author.Tests.{eq-eqb, ne_eqb}

@@ -9,46 +9,30 @@ returns-then-at-eq-CONFIG_CACHE_LINE_SIZE_OFFSET c = rw (← c.value-at.ensures,
 
 pub returns-then-at-eq-CONFIG_LATENCY_TIMER_OFFSET : goal.returns-then-at-eq-CONFIG_LATENCY_TIMER_OFFSET
 unfolding byte_ok
-returns-then-at-eq-CONFIG_LATENCY_TIMER_OFFSET c = 
+returns-then-at-eq-CONFIG_LATENCY_TIMER_OFFSET c =
     rw (← c.value-at.ensures, ne_eqb _ _ c.if-at-eq-CONFIG_CACHE_LINE_SIZE_OFFSET.false, eq-eqb _ _ c.if-at-eq-CONFIG_LATENCY_TIMER_OFFSET.true)
 
 pub returns-then-at-eq-CONFIG_INTERRUPT_LINE_OFFSET : goal.returns-then-at-eq-CONFIG_INTERRUPT_LINE_OFFSET
 unfolding byte_ok
-returns-then-at-eq-CONFIG_INTERRUPT_LINE_OFFSET c = 
-    
+returns-then-at-eq-CONFIG_INTERRUPT_LINE_OFFSET c =
     rw (← c.value-at.ensures, ne_eqb _ _ c.if-at-eq-CONFIG_CACHE_LINE_SIZE_OFFSET.false, ne_eqb _ _ c.if-at-eq-CONFIG_LATENCY_TIMER_OFFSET.false, eq-eqb _ _ c.if-at-eq-CONFIG_INTERRUPT_LINE_OFFSET.true)
 
 pub returns-then-at-lt-CONFIG_STANDARD_HEADER_END : goal.returns-then-at-lt-CONFIG_STANDARD_HEADER_END
 unfolding byte_ok
-returns-then-at-lt-CONFIG_STANDARD_HEADER_END c = 
-    
-    
+returns-then-at-lt-CONFIG_STANDARD_HEADER_END c =
     rw (← c.value-at.ensures, ne_eqb _ _ c.if-at-eq-CONFIG_CACHE_LINE_SIZE_OFFSET.false, ne_eqb _ _ c.if-at-eq-CONFIG_LATENCY_TIMER_OFFSET.false, ne_eqb _ _ c.if-at-eq-CONFIG_INTERRUPT_LINE_OFFSET.false, lt-leb _ _ c.if-at-lt-CONFIG_STANDARD_HEADER_END.true)
 
 pub returns-then-space-at : goal.returns-then-space-at
 unfolding byte_ok
-returns-then-space-at c = 
-    
-    
-    
+returns-then-space-at c =
     rw (← c.value-at.ensures, ne_eqb _ _ c.if-at-eq-CONFIG_CACHE_LINE_SIZE_OFFSET.false, ne_eqb _ _ c.if-at-eq-CONFIG_LATENCY_TIMER_OFFSET.false, ne_eqb _ _ c.if-at-eq-CONFIG_INTERRUPT_LINE_OFFSET.false, le-leb _ _ c.if-at-lt-CONFIG_STANDARD_HEADER_END.false, le-ltb _ _ c.if-space-at.true)
 
 pub returns-in-Capability : goal.returns-in-Capability
 unfolding byte_ok
-returns-in-Capability c = 
-    
-    
-    
-    
-    
+returns-in-Capability c =
     rw (← c.capability_at.ensures, c.in-Capability.is, ← c.value-at.ensures, ne_eqb _ _ c.if-at-eq-CONFIG_CACHE_LINE_SIZE_OFFSET.false, ne_eqb _ _ c.if-at-eq-CONFIG_LATENCY_TIMER_OFFSET.false, ne_eqb _ _ c.if-at-eq-CONFIG_INTERRUPT_LINE_OFFSET.false, le-leb _ _ c.if-at-lt-CONFIG_STANDARD_HEADER_END.false, lt-ltb _ _ c.if-space-at.false)
 
 pub returns-in-Nobody : goal.returns-in-Nobody
 unfolding byte_ok
-returns-in-Nobody c = 
-    
-    
-    
-    
-    
+returns-in-Nobody c =
     rw (← c.capability_at.ensures, c.in-Nobody.is, ← c.value-at.ensures, ne_eqb _ _ c.if-at-eq-CONFIG_CACHE_LINE_SIZE_OFFSET.false, ne_eqb _ _ c.if-at-eq-CONFIG_LATENCY_TIMER_OFFSET.false, ne_eqb _ _ c.if-at-eq-CONFIG_INTERRUPT_LINE_OFFSET.false, le-leb _ _ c.if-at-lt-CONFIG_STANDARD_HEADER_END.false, lt-ltb _ _ c.if-space-at.false)

@@ -1,5 +1,3 @@
-use Prim.Native.Nat.{◌-◌}
-use mathlib.Core.Bool.{false}
 use mathlib.Core.Bool.{not}
 use mathlib.Core.Path.{ap, ◌≡◌, sym}
 use native.Mathlib.Omega.{arith}

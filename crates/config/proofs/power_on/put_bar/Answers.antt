@@ -8,5 +8,5 @@ pub returns-then-bar-eq0 : goal.returns-then-bar-eq0
 returns-then-bar-eq0 c = rw (eq-eqb _ _ c.if-bar-eq0.true) (sym (laid_none _))
 
 pub returns : goal.returns
-returns c = 
+returns c =
     rw (ne_eqb _ _ c.if-bar-eq0.false) (c.put.ensures ∙ rw c.committed_dword.ensures (laid_put _ _ _ _))

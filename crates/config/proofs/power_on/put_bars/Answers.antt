@@ -1,4 +1,3 @@
-use Prim.Native.Nat.{◌-◌}
 use mathlib.Core.Path.{◌≡◌, refl, ap, ◌∙◌}
 use native.Mathlib.Omega.{arith}
 use lib.ListN.{length}
@@ -29,7 +28,6 @@ loop-slot-smaller c = omega arith
 
 pub loop-slot-preserved : goal.loop-slot-preserved
 loop-slot-preserved c =
-    
     let l = c.loop-slot in
     let a = c.args in
     let e = c.put_bar.ensures ∙ laid_next (λ i. bar_field (bar_at a.bars i) i) a.image.now l.image l.slot l.invariant.1 in

@@ -23,7 +23,5 @@ pub bounds-placed-i : goal.bounds-placed-i
 bounds-placed-i c = below (goal.at.bounds-placed-i c).Start
 
 pub returns : goal.returns
-returns c = 
-    
-    
+returns c =
     rw (c.copy.ensures, c.capability_start-start.ensures, kept_is c.args.placed c.args.i c.requires)

@@ -4,6 +4,4 @@ use Rattle.config.proofs.power_on.put_command.Goals as goal
 
 pub returns : goal.returns
 returns c =
-    
-    
     rw (c.put_byte-2.ensures, c.put_byte.ensures) (simp laid_append)

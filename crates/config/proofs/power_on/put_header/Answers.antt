@@ -27,8 +27,5 @@ pub overflow_add-i : goal.overflow_add-i
 overflow_add-i c = omega (arith, below (goal.at.overflow_add-i c).Start)
 
 pub returns : goal.returns
-returns c = 
-    
-    
-    
+returns c =
     rw (c.put.ensures, c.put_byte.ensures, c.capability_start.ensures, c.capability_start-start.ensures, laid_put, kept_is c.args.placed c.args.i c.requires) (simp laid_append)

@@ -8,6 +8,4 @@ returns-in-Absent c = rw c.in-Absent.is (sym (laid_none _))
 
 pub returns-in-Pin : goal.returns-in-Pin
 returns-in-Pin c =
-    
-    
     rw (c.in-Pin.is, c.put_byte-in-Pin.ensures, c.put_byte.ensures) (simp laid_append)

@@ -17,10 +17,8 @@ returns-then-old-new c =
 
 pub returns-then-n : goal.returns-then-n
 returns-then-n c =
-    
     (rw (is_exhausted _ _ _ (differs (goal.at.returns-then-n c).After-command_after-new c.if-old-new.false) c.if-n.true), refl, refl)
 
 pub returns : goal.returns
 returns c =
-    
     (rw (room_not_exhausted _ (stored _ _ _ _ _) _ c.if-n.false), c.store-2.ensures, sym (next_revision _ _ _ (differs (goal.at.returns c).After-command_after-new c.if-old-new.false)))

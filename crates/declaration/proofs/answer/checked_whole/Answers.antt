@@ -20,7 +20,6 @@ long c = search (rules, long_unmapped)
 pub returns-then-k-at_most : goal.returns-then-k-at_most
 unfolding checked_whole
 returns-then-k-at_most c =
-    
     let f = c.args.finished in
     let k = c.first_faulty-k.result in
     let m = c.at_most.ensures in
@@ -32,5 +31,4 @@ returns-then-k-at_most c =
 pub returns : goal.returns
 unfolding checked_whole
 returns c =
-    
     rw (← c.first_faulty-k.ensures, le-ltb c.first_faulty-k.result (count_in c.args.finished) (omega (arith, c.at_most.ensures, c.if-k-at_most.false)))

@@ -1,5 +1,5 @@
 -- `opened_at`: the loop moves what stands past the place, from the list's end.
-use Prim.Native.Nat.{◌≤◌, ◌<◌, ◌-◌}
+use Prim.Native.Nat.{◌≤◌, ◌<◌}
 use mathlib.Core.Path.{◌≡◌}
 use Rattle.address.specs.Limits.{function_room}
 use Rattle.declaration.specs.Blank.{no_function}

@@ -1,6 +1,5 @@
-use Prim.Native.Nat.{ℕ, suc, ◌+◌, ◌-◌, ◌^◌, ◌<◌}
+use Prim.Native.Nat.{ℕ, suc, ◌+◌, ◌^◌, ◌<◌}
 use mathlib.Core.Path.{◌≡◌, sym, ap, ◌∙◌}
-use mathlib.Core.Logic.{⊎_elim}
 use native.Mathlib.Omega.{arith}
 use lib.ListN.{length}
 use Rattle.refusal.specs.Number.{accepted}
@@ -72,10 +71,10 @@ loop-at-preserved c =
     let m : took.state ≡ now = ap (λ (x : Taken). x.state) (sym (taken (goal.at.loop-at-preserved c).After-take_field-taken)) in (
       suc l.invariant.0,
       elim c.if-next-now.branch [
-        then-next-now w ↦ onward limits a.file.now l.at l.now l.finished next now c.if-next-now.finished l.invariant.0 l.invariant.1
-          (turn_new limits a.file.now l.at l.now l.finished c.in-Field.tag c.in-Field.start c.in-Field.length h (framed (goal.at.loop-at-preserved c).After-take_field-taken) q (λ z. w.if-next-now.true (ap (λ (x : SoFar). x.count) (sym m) ∙ z)) ∙ both_parts next took.state now (finished_so_far l.finished l.now) c.if-next-now.finished m (sym w.with_latest-finished.ensures ∙ sym w.finished-is))
-      | else-next-now w ↦ onward limits a.file.now l.at l.now l.finished next now c.if-next-now.finished l.invariant.0 l.invariant.1
-          (turn_same limits a.file.now l.at l.now l.finished c.in-Field.tag c.in-Field.start c.in-Field.length h (framed (goal.at.loop-at-preserved c).After-take_field-taken) q (ap (λ (x : SoFar). x.count) m ∙ w.if-next-now.false) ∙ both_parts next took.state now l.finished c.if-next-now.finished m (sym w.finished-is))
+        | then-next-now w ↦ onward limits a.file.now l.at l.now l.finished next now c.if-next-now.finished l.invariant.0 l.invariant.1
+            (turn_new limits a.file.now l.at l.now l.finished c.in-Field.tag c.in-Field.start c.in-Field.length h (framed (goal.at.loop-at-preserved c).After-take_field-taken) q (λ z. w.if-next-now.true (ap (λ (x : SoFar). x.count) (sym m) ∙ z)) ∙ both_parts next took.state now (finished_so_far l.finished l.now) c.if-next-now.finished m (sym w.with_latest-finished.ensures ∙ sym w.finished-is))
+        | else-next-now w ↦ onward limits a.file.now l.at l.now l.finished next now c.if-next-now.finished l.invariant.0 l.invariant.1
+            (turn_same limits a.file.now l.at l.now l.finished c.in-Field.tag c.in-Field.start c.in-Field.length h (framed (goal.at.loop-at-preserved c).After-take_field-taken) q (ap (λ (x : SoFar). x.count) m ∙ w.if-next-now.false) ∙ both_parts next took.state now l.finished c.if-next-now.finished m (sym w.finished-is))
       ],
     )
 

@@ -2,6 +2,5 @@
 use Rattle.declaration.proofs.take_capability.bodies_with.Goals as goal
 
 pub returns : goal.returns
-returns c = 
-    
+returns c =
     rw (c.lay-2.ensures, c.part-2.ensures, c.lay.ensures, c.part.ensures, c.body_place-at.ensures)

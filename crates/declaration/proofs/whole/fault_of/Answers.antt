@@ -5,7 +5,6 @@ use Rattle.declaration.proofs.whole.fault_of.Goals as goal
 pub returns-in-Placed : goal.returns-in-Placed
 unfolding fault_of
 returns-in-Placed c =
-    
     rw (c.byte_fault-bytes.ensures, c.check_config_bytes.ensures, ← c.layout_capabilities-laid.ensures, c.in-Placed.is)
 
 pub returns-in-Repeated : goal.returns-in-Repeated

@@ -3,7 +3,7 @@ use native.Mathlib.Omega.{arith}
 use lib.ListN.{take}
 use Rattle.text.proofs.Writes.{parts_none, parts_more}
 use Rattle.dialogue.specs.Dump.{function_dump, dump_text}
-use Prim.Native.Nat.{min, ◌-◌}
+use Prim.Native.Nat.{min}
 use Rattle.address.specs.Limits.{function_room}
 use Rattle.dialogue.proofs.dump.put_dump.Goals as goal
 

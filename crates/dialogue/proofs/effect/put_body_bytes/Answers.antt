@@ -1,7 +1,7 @@
-use Prim.Native.Nat.{◌-◌, min}
+use Prim.Native.Nat.{min}
 use mathlib.Core.Path.{◌≡◌, refl, sym, ◌∙◌}
 use native.Mathlib.Omega.{arith}
-use lib.ListN.{length, take}
+use lib.ListN.{take}
 use Rattle.text.proofs.Writes.{parts_none, parts_more}
 use Rattle.capability.specs.Size.{body_most}
 use Rattle.dialogue.specs.Effect.{byte_text, body_bytes}

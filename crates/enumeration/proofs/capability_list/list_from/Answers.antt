@@ -26,15 +26,11 @@ ended c e =
 
 pub returns-then-not-there : goal.returns-then-not-there
 returns-then-not-there c =
-    
-    
     let a = c.args in
     ended (goal.at.returns-then-not-there c).At-loop-n (list_ends a.bus a.device _ _ (sym c.goes_on-there.ensures ∙ c.if-not-there.true))
 
 pub loop-n-preserved : goal.loop-n-preserved
 loop-n-preserved c =
-    
-    
     let l = c.loop-n in
     let a = c.args in
     let on = sym c.goes_on-there.ensures ∙ c.if-not-there.false in
@@ -48,7 +44,6 @@ loop-n-preserved c =
 
 pub returns : goal.returns
 returns c =
-    
     let a = c.args in
     let e : capability_room - c.loop-n.n ≡ 0 = omega arith in
     ended (goal.at.returns c).At-loop-n (rw e (list_full a.bus a.device c.loop-n.at))

@@ -10,9 +10,4 @@ returns-then-ask_word c = rw (← c.ask_word.ensures, eq-eqb _ _ c.if-ask_word.t
 pub returns : goal.returns
 unfolding enumerate_of
 returns c =
-    
-    
-    
-    
-    
     rw (c.read_list-listed.ensures.0, c.read_list-listed.ensures.1, c.enumerate_slots-done.ensures.0, c.enumerate_slots-done.ensures.1, c.ask_byte-pin.ensures, c.read_identity-identity.ensures, ← c.ask_word.ensures, ne_eqb _ _ c.if-ask_word.false)

@@ -1,4 +1,3 @@
-use Prim.Native.Nat.{◌-◌}
 use mathlib.Core.Path.{◌≡◌, refl, ◌∙◌}
 use Rattle.placement.specs.Keys.{key_count}
 use Rattle.placement.specs.Answer.{addresses_of}

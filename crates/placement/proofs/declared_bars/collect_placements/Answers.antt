@@ -1,4 +1,3 @@
-use Prim.Native.Nat.{◌-◌}
 use mathlib.Core.Path.{◌≡◌, ◌∙◌}
 use Rattle.bar.specs.Bar.{no_bar}
 use Rattle.placement.specs.Keys.{key_count}

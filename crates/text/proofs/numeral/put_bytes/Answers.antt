@@ -5,5 +5,4 @@ use Rattle.text.proofs.numeral.put_bytes.Goals as goal
 
 pub returns : goal.returns
 returns c =
-    
     (refl, rw c.lay.ensures (laid_take c.args.text.now c.args.at c.args.part.now c.requires))

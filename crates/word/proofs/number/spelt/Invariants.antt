@@ -1,5 +1,5 @@
 -- `spelt` takes the bytes from the last on: what is read so far is the number of those from i on.
-use Prim.Native.Nat.{◌-◌, ◌≤◌}
+use Prim.Native.Nat.{◌≤◌}
 use mathlib.Core.Path.{◌≡◌}
 use lib.ListN.{length, drop}
 use Rattle.word.specs.Number.{number}

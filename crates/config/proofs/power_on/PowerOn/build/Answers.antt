@@ -25,13 +25,6 @@ slice_bounds-put_capabilities-end-4 c = sym (long_masks (goal.at.slice_bounds-pu
 pub returns : goal.returns
 unfolding power_on_of
 returns c =
-    
-    
-    
-    
-    
-    
-    
     let a = c.args in
     let e : c.put_capabilities.new.image ≡ image_of config_space_size (image_fields a.contents a.bars a.placed) =
     rw (c.put_capabilities.ensures.0, c.put_list.ensures, c.put_bars.ensures, c.put_config_bytes.ensures.0, c.put_intx.ensures, c.put_identity.ensures, laid_append, laid_append, laid_append, laid_append, laid_append) (laid_blank config_space_size _) in

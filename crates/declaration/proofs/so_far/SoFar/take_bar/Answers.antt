@@ -35,37 +35,27 @@ pub returns-then-self-eq0 : goal.returns-then-self-eq0
 returns-then-self-eq0 c = let a = c.args in c.refused.ensures ∙ sym (bar_early limits a.self a.slot a.size a.request [] c.if-self-eq0.true)
 
 pub returns-then-full : goal.returns-then-full
-returns-then-full c = 
+returns-then-full c =
     let a = c.args in
     c.refused-then-full.ensures ∙ sym (bar_above limits a.self a.slot a.size a.request [] c.if-self-eq0.false (sym c.slots_used-full.ensures ∙ c.if-full.true))
 
 pub returns-in_default : goal.returns-in_default
-returns-in_default c = 
-    
+returns-in_default c =
     let a = c.args in
     c.refused-in_default.ensures ∙ sym (bar_no_slot limits a.self a.slot a.size a.request [] c.if-self-eq0.false (free (goal.at.returns-in_default c).Else-full) (slot_none a.slot (sym c.new.ensures ∙ c.in_default.is)))
 
 pub returns-then-used : goal.returns-then-used
-returns-then-used c = 
-    
-    
+returns-then-used c =
     let a = c.args in
     c.refused-then-used.ensures ∙ sym (bar_used limits a.self a.slot a.size a.request [] c.if-self-eq0.false (free (goal.at.returns-then-used c).Else-full) (low (goal.at.returns-then-used c).After-index-i) (rw (← place (goal.at.returns-then-used c).After-index-i) (sym c.slot_used-used.ensures ∙ c.if-used.true)))
 
 pub returns-in_default-new : goal.returns-in_default-new
-returns-in_default-new c = 
-    
-    
-    
+returns-in_default-new c =
     let a = c.args in
     c.refused-in_default-new.ensures ∙ sym (bar_bad_size limits a.self a.slot a.size a.request [] c.if-self-eq0.false (free (goal.at.returns-in_default-new c).Else-full) (low (goal.at.returns-in_default-new c).After-index-i) (unused (goal.at.returns-in_default-new c).Else-used) (bar_none _ a.size a.request (sym c.new-2.ensures ∙ c.in_default-new.is)))
 
 pub returns : goal.returns
-returns c = 
-    
-    
-    
-    
+returns c =
     let a = c.args in
     let r = bar_is _ a.size a.request _ (sym c.new-2.ensures ∙ c.in-Good-new.is) in
     rw (c.accepted.ensures, c.with_function.ensures, place (goal.at.returns c).After-index-i, r.0, is_slot (goal.at.returns c).After-index-i) (sym (bar_taken limits a.self a.slot a.size a.request [] c.if-self-eq0.false (free (goal.at.returns c).Else-full) (low (goal.at.returns c).After-index-i) (unused (goal.at.returns c).Else-used) (size_ok_lem a.size r.1)))

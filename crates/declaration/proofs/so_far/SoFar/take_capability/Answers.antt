@@ -23,12 +23,12 @@ added c =
     c.add_capability-done.ensures ∙ ap (λ (x : Capability). add_capability_of limits a.self.function.capabilities x) (capability_is _ _ _ (sym c.new.ensures ∙ c.in-Good.is)).0
 
 pub returns-in_default : goal.returns-in_default
-returns-in_default c = 
+returns-in_default c =
     let a = c.args in
     c.refused.ensures ∙ sym (capability_long limits a.self a.id a.length a.body.now (capability_none a.id a.length (sym c.new.ensures ∙ c.in_default.is)))
 
 pub returns-then-self-eq0 : goal.returns-then-self-eq0
-returns-then-self-eq0 c = 
+returns-then-self-eq0 c =
     let a = c.args in
     c.refused-then-self-eq0.ensures ∙ sym (capability_early limits a.self a.id a.length a.body.now (short (goal.at.returns-then-self-eq0 c).In-Good) c.if-self-eq0.true)
 
@@ -39,11 +39,11 @@ pub mask_of-mask-requires : goal.mask_of-mask-requires
 mask_of-mask-requires c = short (goal.at.mask_of-mask-requires c).In-Good
 
 pub returns-in-Full : goal.returns-in-Full
-returns-in-Full c = 
+returns-in-Full c =
     let a = c.args in
     rw (c.refused-in-Full.ensures, capability_step limits a.self a.id a.length a.body.now (short (goal.at.returns-in-Full c).In-Good) c.if-self-eq0.false, ← added (goal.at.returns-in-Full c).After-add_capability-done, c.in-Full.is)
 
 pub returns-in-Added : goal.returns-in-Added
-returns-in-Added c = 
+returns-in-Added c =
     let a = c.args in
     rw (c.accepted.ensures, c.mask_of-mask.ensures, c.bodies_with-contents.ensures, capability_step limits a.self a.id a.length a.body.now (short (goal.at.returns-in-Added c).In-Good) c.if-self-eq0.false, ← added (goal.at.returns-in-Added c).After-add_capability-done, c.in-Added.is)

@@ -9,12 +9,11 @@ pub returns-then-self-eq0 : goal.returns-then-self-eq0
 returns-then-self-eq0 c = let a = c.args in c.refused.ensures ∙ sym (byte_early limits a.self a.offset a.value a.mask [] c.if-self-eq0.true)
 
 pub returns-then-n-ge-CONFIG_BYTE_LIMIT : goal.returns-then-n-ge-CONFIG_BYTE_LIMIT
-returns-then-n-ge-CONFIG_BYTE_LIMIT c = 
+returns-then-n-ge-CONFIG_BYTE_LIMIT c =
     let a = c.args in
     c.refused-then-n-ge-CONFIG_BYTE_LIMIT.ensures ∙ sym (byte_above limits a.self a.offset a.value a.mask [] c.if-self-eq0.false c.if-n-ge-CONFIG_BYTE_LIMIT.true)
 
 pub returns : goal.returns
-returns c = 
-    
+returns c =
     let a = c.args in
     rw (c.accepted.ensures, c.with_function.ensures, c.of_byte.ensures) (sym (byte_taken limits a.self a.offset a.value a.mask [] c.if-self-eq0.false c.if-n-ge-CONFIG_BYTE_LIMIT.false))

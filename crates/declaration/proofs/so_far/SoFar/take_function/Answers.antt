@@ -12,20 +12,16 @@ pub returns-then-i-ge-FUNCTION_LIMIT : goal.returns-then-i-ge-FUNCTION_LIMIT
 returns-then-i-ge-FUNCTION_LIMIT c = let a = c.args in c.refused-then-i-ge-FUNCTION_LIMIT.ensures ∙ sym (function_above limits a.self a.device a.identity [] (c.if-not-placed.false) c.if-i-ge-FUNCTION_LIMIT.true)
 
 pub returns-then-bad : goal.returns-then-bad
-returns-then-bad c = 
-    
+returns-then-bad c =
     let a = c.args in
     c.refused-then-bad.ensures ∙ sym (function_bad_device limits a.self a.device a.identity [] (c.if-not-placed.false) c.if-i-ge-FUNCTION_LIMIT.false (sym c.device_bad-bad.ensures ∙ c.if-bad.true))
 
 pub returns-then-vendor : goal.returns-then-vendor
-returns-then-vendor c = 
-    
+returns-then-vendor c =
     let a = c.args in
     c.refused-then-vendor.ensures ∙ sym (function_absent limits a.self a.device a.identity [] (c.if-not-placed.false) c.if-i-ge-FUNCTION_LIMIT.false (sym c.device_bad-bad.ensures ∙ c.if-bad.false) c.if-vendor.true)
 
 pub returns : goal.returns
-returns c = 
-    
-    
+returns c =
     let a = c.args in
     rw (c.accepted.ensures, c.no_mask-mask.ensures, c.empty_function-function.ensures) (sym (function_taken limits a.self a.device a.identity [] (c.if-not-placed.false) c.if-i-ge-FUNCTION_LIMIT.false (sym c.device_bad-bad.ensures ∙ c.if-bad.false) c.if-vendor.false))
