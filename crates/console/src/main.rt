@@ -3,54 +3,46 @@
 
 mod talk;
 
-use bus::Bus;
 use declaration::DeclarationAnswer;
-use libc::STDOUT_FILENO;
+use std::fs::File;
+use std::io::{Read, Write};
+use std::{env, io};
 use talk::converse;
 use text::{FILE_MOST, TEXT_ROOM};
 
 // What the placement program prints.
-fn refuse(file: &[u8]) {
+fn refuse<W: Write>(output: &mut W, file: &[u8]) -> io::Result<()> {
     let mut text = [0u8; TEXT_ROOM];
     let length = text::file_text(&mut text, file);
-    io::write_all(STDOUT_FILENO, &text[..length]);
+    output.write_all(&text[..length])
 }
 
 // A dialogue over a file's bus, or the refusal of the file.
-fn open(file: &[u8]) {
+fn open<R: Read, W: Write>(input: &mut R, output: &mut W, file: &[u8]) -> io::Result<()> {
     if FILE_MOST < file.len() {
-        refuse(file);
-        return;
+        return refuse(output, file);
     }
     let started = bus::start(file);
     let answer = started.answer;
     match answer {
         DeclarationAnswer::Accepted => {
             let bus = started.bus;
-            converse(bus);
+            converse(input, output, bus)
         }
         DeclarationAnswer::Refused {
             number: _,
             place: _,
-        } => refuse(file),
+        } => refuse(output, file),
     }
 }
 
 // One byte more than a file may have tells that it is too long.
-fn main() {
-    let mut path = io::buffer();
-    let length = os::arg(1, &mut path);
-    if os::errno() != 0 {
-        os::fail(b"console DECLARATION");
-        return;
-    }
-    let fd = os::open_read(&path[..length]);
-    if fd < 0 {
-        os::fail(&path[..length]);
-        return;
-    }
+fn main(rt: HostRuntime) -> io::Result<()> {
+    let Some(path) = env::args(&rt)?.nth(1) else {
+        return eprintln!(rt; "console DECLARATION: Invalid argument");
+    };
+    let mut declared = File::open(&rt, &path)?;
     let mut file = [0u8; FILE_MOST + 1];
-    let read = io::read_full(fd, &mut file);
-    libc::close(fd);
-    open(&file[..read]);
+    let read = streams::fill(&mut declared, &mut file)?;
+    open(&mut rt.stdin(), &mut rt.stdout(), &file[..read])
 }

@@ -1,7 +1,8 @@
 // A dialogue over a bus: input is taken as it comes, and each line is answered as soon as it ends.
 use bus::Bus;
 use dialogue::{ANSWER_ROOM, Answered, LINE_MOST};
-use libc::{STDIN_FILENO, STDOUT_FILENO};
+use std::io;
+use std::io::{ErrorKind, Read, Write};
 
 // How much of the last line is held, and whether it began before that.
 #[derive(Clone, Copy)]
@@ -30,97 +31,116 @@ fn held_bytes<'a>(line: &'a [u8], held: Held) -> &'a [u8] {
 }
 
 // Writes what is held of a line that is longer than the buffer: it is taken for no command, and shown.
-fn show(line: &[u8], held: Held) {
+fn show<W: Write>(output: &mut W, line: &[u8], held: Held) -> io::Result<()> {
     if !held.long {
-        io::write_all(STDOUT_FILENO, b"? ");
+        output.write_all(b"? ")?;
     }
-    io::write_all(STDOUT_FILENO, held_bytes(line, held));
+    output.write_all(held_bytes(line, held))
 }
 
-fn answer_line(line: &[u8], held: Held, bus: Bus) -> Bus {
+fn answer_line<W: Write>(output: &mut W, line: &[u8], held: Held, bus: Bus) -> io::Result<Bus> {
     let mut text = [0u8; ANSWER_ROOM];
     let done = dialogue::answer(&mut text, held_bytes(line, held), bus);
     let length = done.length;
-    io::write_all(STDOUT_FILENO, &text[..length]);
-    done.bus
+    output.write_all(&text[..length])?;
+    Ok(done.bus)
 }
 
 // The line has ended: the bus after its answer.
-fn end_line(line: &[u8], held: Held, bus: Bus) -> Bus {
+fn end_line<W: Write>(output: &mut W, line: &[u8], held: Held, bus: Bus) -> io::Result<Bus> {
     if held.long {
-        show(line, held);
-        io::write_all(STDOUT_FILENO, b"\n");
-        return bus;
+        show(output, line, held)?;
+        output.write_all(b"\n")?;
+        return Ok(bus);
     }
-    answer_line(line, held, bus)
+    answer_line(output, line, held, bus)
 }
 
 // One byte more of the line.
-fn keep(line: &mut [u8; LINE_MOST], held: Held, byte: u8) -> Held {
+fn keep<W: Write>(
+    output: &mut W,
+    line: &mut [u8; LINE_MOST],
+    held: Held,
+    byte: u8,
+) -> io::Result<Held> {
     let at = held.length;
     if at < LINE_MOST {
         line[at] = byte;
-        return Held {
+        return Ok(Held {
             length: at + 1,
             long: held.long,
-        };
+        });
     }
-    show(line, held);
+    show(output, line, held)?;
     line[0] = byte;
-    Held {
+    Ok(Held {
         length: 1,
         long: true,
-    }
+    })
 }
 
 // Takes what was read.
-fn hear(line: &mut [u8; LINE_MOST], input: &[u8], talk: Talk) -> Talk {
+fn hear<W: Write>(
+    output: &mut W,
+    line: &mut [u8; LINE_MOST],
+    input: &[u8],
+    talk: Talk,
+) -> io::Result<Talk> {
     let mut bus = talk.bus;
     let mut held = talk.held;
     let mut i = 0;
     while i < input.len() {
         let byte = input[i];
         if byte == b'\n' {
-            let after = end_line(line, held, bus);
+            let after = end_line(output, line, held, bus)?;
             bus = after;
             held = nothing_held();
         } else {
-            held = keep(line, held, byte);
+            held = keep(output, line, held, byte)?;
         }
         i += 1;
     }
-    Talk {
+    Ok(Talk {
         bus,
         held,
         open: true,
-    }
+    })
 }
 
 // The input has ended; the last line may lack its end.
-fn close(line: &[u8], talk: Talk) -> Talk {
+fn close<W: Write>(output: &mut W, line: &[u8], talk: Talk) -> io::Result<Talk> {
     let held = talk.held;
     let bus = talk.bus;
     let mut after = bus;
     if 0 < held.length {
-        let last = end_line(line, held, bus);
+        let last = end_line(output, line, held, bus)?;
         after = last;
     }
-    Talk {
+    Ok(Talk {
         bus: after,
         held: nothing_held(),
         open: false,
-    }
+    })
 }
 
 // Reads once, and answers what came.
-fn listen(line: &mut [u8; LINE_MOST], talk: Talk) -> Talk {
-    let mut input = io::buffer();
-    let got = libc::read(STDIN_FILENO, &mut input);
-    if got <= 0 {
-        return close(line, talk);
+fn listen<R: Read, W: Write>(
+    input: &mut R,
+    output: &mut W,
+    line: &mut [u8; LINE_MOST],
+    talk: Talk,
+) -> io::Result<Talk> {
+    let mut came = [0u8; 4096];
+    match input.read(&mut came) {
+        Ok(0) => close(output, line, talk),
+        Ok(count) => hear(output, line, &came[..count], talk),
+        Err(e) => {
+            if e.kind() == ErrorKind::Interrupted {
+                return Ok(talk);
+            }
+            Err(e)
+        }
     }
-    let count = io::count(got, &input);
-    hear(line, &input[..count], talk)
 }
 
 fn blank_line() -> [u8; LINE_MOST] {
@@ -128,7 +148,7 @@ fn blank_line() -> [u8; LINE_MOST] {
 }
 
 // A proved loop ends, so it counts its turns down, from a number that no run uses up.
-pub fn converse(bus: Bus) {
+pub fn converse<R: Read, W: Write>(input: &mut R, output: &mut W, bus: Bus) -> io::Result<()> {
     let mut line = blank_line();
     let mut talk = Talk {
         bus,
@@ -137,8 +157,9 @@ pub fn converse(bus: Bus) {
     };
     let mut turns = u64::MAX;
     while turns > 0 && talk.open {
-        let next = listen(&mut line, talk);
+        let next = listen(input, output, &mut line, talk)?;
         talk = next;
         turns -= 1;
     }
+    Ok(())
 }

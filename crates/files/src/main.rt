@@ -3,8 +3,8 @@
 
 mod records;
 
-use libc::{STDIN_FILENO, STDOUT_FILENO};
 use records::{ROOM, agrees, next_at};
+use std::io;
 
 // How many of so many records, from the first on, differ.
 fn differing(records: &[u8], count: u64) -> u64 {
@@ -24,14 +24,10 @@ fn differing(records: &[u8], count: u64) -> u64 {
 }
 
 // One line: how many files, for how many the text differs.
-fn main() {
+fn main(rt: HostRuntime) -> io::Result<()> {
     let mut records = [0u8; ROOM];
-    let read = io::read_full(STDIN_FILENO, &mut records);
+    let read = streams::fill(&mut rt.stdin(), &mut records)?;
     let count = word::read(&records[..read], 0, 8);
     let differ = differing(&records[..read], count);
-    io::write_all(STDOUT_FILENO, b"files: ");
-    io::print_decimal(STDOUT_FILENO, count);
-    io::write_all(STDOUT_FILENO, b" files, ");
-    io::print_decimal(STDOUT_FILENO, differ);
-    io::write_all(STDOUT_FILENO, b" differ\n");
+    println!(rt; "files: {count} files, {differ} differ")
 }

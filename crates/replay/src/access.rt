@@ -2,6 +2,8 @@
 use crate::input::next;
 use address::Access;
 use address::config_layout::CONFIG_SPACE_SIZE;
+use std::io;
+use std::io::Read;
 
 // 1 where the library lets the access pass.
 fn passes(offset: usize, width: usize) -> u64 {
@@ -15,13 +17,13 @@ fn passes(offset: usize, width: usize) -> u64 {
 }
 
 // Whether the record is there and the library answers as it says.
-pub fn same_access() -> bool {
+pub fn same_access<R: Read>(input: &mut R) -> io::Result<bool> {
     let mut record = [0u8; 24];
-    let whole = next(&mut record);
+    let whole = next(input, &mut record)?;
     if !whole {
-        return false;
+        return Ok(false);
     }
     let offset = word::read(&record, 0, 8) as usize;
     let width = word::read(&record, 8, 8) as usize;
-    passes(offset, width) == word::read(&record, 16, 8)
+    Ok(passes(offset, width) == word::read(&record, 16, 8))
 }

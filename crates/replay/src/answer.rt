@@ -4,6 +4,8 @@ use crate::record::{ADDRESSES, RECORD_SIZE, REFUSAL, number};
 use crate::request::declared;
 use bar::Aperture;
 use placement::{KEY_COUNT, PlacementAnswer, resolve_bar_addresses};
+use std::io;
+use std::io::Read;
 
 fn wide(x: u8) -> u64 {
     x as u64
@@ -58,11 +60,11 @@ fn same_answer(record: &[u8]) -> bool {
 }
 
 // Whether the record is there and the library answers as it says.
-pub fn same_placement() -> bool {
+pub fn same_placement<R: Read>(input: &mut R) -> io::Result<bool> {
     let mut record = [0u8; RECORD_SIZE];
-    let whole = next(&mut record);
+    let whole = next(input, &mut record)?;
     if !whole {
-        return false;
+        return Ok(false);
     }
-    same_answer(&record)
+    Ok(same_answer(&record))
 }

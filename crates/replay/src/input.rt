@@ -1,33 +1,34 @@
 // The recorded answers on standard input: a header, then records, each with its kind before it.
-use libc::STDIN_FILENO;
+use std::io;
+use std::io::Read;
 
 // "vgreplay" in bytes.
 const MAGIC: u64 = 0x7961_6c70_6572_6776;
 
 // Fills a buffer; false where the input ends before.
-pub fn next(bytes: &mut [u8]) -> bool {
+pub fn next<R: Read>(input: &mut R, bytes: &mut [u8]) -> io::Result<bool> {
     let length = bytes.len();
-    let got = io::read_full(STDIN_FILENO, bytes);
-    got == length
+    let got = streams::fill(input, bytes)?;
+    Ok(got == length)
 }
 
 // How many records follow: the header has the magic number, the count and the seed; 0 where it is no header.
-pub fn records() -> u64 {
+pub fn records<R: Read>(input: &mut R) -> io::Result<u64> {
     let mut header = [0u8; 24];
-    next(&mut header);
+    next(input, &mut header)?;
     let magic = word::read(&header, 0, 8);
     if magic == MAGIC {
-        return word::read(&header, 8, 8);
+        return Ok(word::read(&header, 8, 8));
     }
-    0
+    Ok(0)
 }
 
 // The kind of the next record; 255 where there is none.
-pub fn kind() -> u64 {
+pub fn kind<R: Read>(input: &mut R) -> io::Result<u64> {
     let mut number = [0u8; 8];
-    let there = next(&mut number);
+    let there = next(input, &mut number)?;
     if there {
-        return word::read(&number, 0, 8);
+        return Ok(word::read(&number, 0, 8));
     }
-    255
+    Ok(255)
 }

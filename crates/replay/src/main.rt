@@ -10,40 +10,38 @@ mod request;
 
 use access::same_access;
 use answer::same_placement;
-use libc::STDOUT_FILENO;
 use register::same_register;
+use std::io;
+use std::io::Read;
 
 // Whether the next record is there and the library answers as it says.
-fn same() -> bool {
-    match input::kind() {
-        0 => same_access(),
-        1 => same_register(),
-        2 => same_placement(),
-        _ => false,
+fn same<R: Read>(input: &mut R) -> io::Result<bool> {
+    match input::kind(input)? {
+        0 => same_access(input),
+        1 => same_register(input),
+        2 => same_placement(input),
+        _ => Ok(false),
     }
 }
 
 // How many of so many records differ; one that is missing differs too.
-fn differing(records: u64) -> u64 {
+fn differing<R: Read>(input: &mut R, records: u64) -> io::Result<u64> {
     let mut left = records;
     let mut differ: u64 = 0;
     while left > 0 {
-        let agrees = same();
+        let agrees = same(input)?;
         if !agrees {
             differ += 1;
         }
         left -= 1;
     }
-    differ
+    Ok(differ)
 }
 
 // One line: how many records, how many differ.
-fn main() {
-    let records = input::records();
-    let differ = differing(records);
-    io::write_all(STDOUT_FILENO, b"replay: ");
-    io::print_decimal(STDOUT_FILENO, records);
-    io::write_all(STDOUT_FILENO, b" records, ");
-    io::print_decimal(STDOUT_FILENO, differ);
-    io::write_all(STDOUT_FILENO, b" differ\n");
+fn main(rt: HostRuntime) -> io::Result<()> {
+    let mut input = rt.stdin();
+    let records = input::records(&mut input)?;
+    let differ = differing(&mut input, records)?;
+    println!(rt; "replay: {records} records, {differ} differ")
 }

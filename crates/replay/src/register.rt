@@ -2,6 +2,8 @@
 use crate::input::next;
 use address::Slot;
 use bar::{BarState, BarWrite, Plan};
+use std::io;
+use std::io::Read;
 
 // The BAR as it stands before the write.
 fn bar_now(size: u64, address: u64, probing: u64) -> BarState {
@@ -47,11 +49,11 @@ fn same_bar(record: &[u8]) -> bool {
 }
 
 // Whether the record is there and the library answers as it says.
-pub fn same_register() -> bool {
+pub fn same_register<R: Read>(input: &mut R) -> io::Result<bool> {
     let mut record = [0u8; 72];
-    let whole = next(&mut record);
+    let whole = next(input, &mut record)?;
     if !whole {
-        return false;
+        return Ok(false);
     }
-    same_bar(&record)
+    Ok(same_bar(&record))
 }
