@@ -26,7 +26,7 @@ most_size = four_gib
 unfoldable pub size_ok : ℕ → Bool
 size_ok size = leb least_size size && (leb size most_size && power_of_two size)
 
--- what the rule says of a size (proofs/Sizes.antt shows that `size_ok_lem` is this)
+-- what the rule says of a size (proofs/Sizes.antt shows that `size_ok` is this)
 pub record Sized (size : ℕ) : Type 0 where
   pub least : least_size ≤ size
   pub most : size ≤ most_size

@@ -35,7 +35,7 @@ pub data Question : Type 0 where
   bodies : List ℕ → Question
   starts : List ℕ → Question
   body : ℕ → Question
-  effect_at_lem : ℕ → ℕ → Question
+  effect_at : ℕ → ℕ → Question
   place : Aperture → DeclaredBars → Question
   written : ℕ → ℕ → ℕ → Question
 
@@ -47,13 +47,13 @@ pub data Reply : Type 0 where
   touches : Touch → Reply
   reads : ReadAnswer → Reply
   refusal_is : ℕ → Reply
-  refusal_at_lem : ℕ → ℕ → Reply
+  refusal_at : ℕ → ℕ → Reply
 
 -- a layout that is refused names the capability's index too
 abbrev pub layout_reply : LayoutAnswer → Reply
 layout_reply layout_answer.Placed = refusal_is (layout_answer_number layout_answer.Placed)
-layout_reply (layout_answer.Repeated k) = refusal_at_lem (layout_answer_number (layout_answer.Repeated k)) k
-layout_reply (layout_answer.PastEnd k) = refusal_at_lem (layout_answer_number (layout_answer.PastEnd k)) k
+layout_reply (layout_answer.Repeated k) = refusal_at (layout_answer_number (layout_answer.Repeated k)) k
+layout_reply (layout_answer.PastEnd k) = refusal_at (layout_answer_number (layout_answer.PastEnd k)) k
 
 abbrev pub touch_reply : Touch → Reply
 touch_reply touch.Untouched = touches touch.Untouched
@@ -68,7 +68,7 @@ answer (check o w) = refusal_is (access_number (access_of config_space_size o w)
 answer (bodies ns) = layout_reply (layout_of config_space_size (declare none_declared ns)).answer
 answer (starts ns) = numbers_are (map (λ (p : PlacedCapability). p.offset.0) (take (length ns) (layout_of config_space_size (declare none_declared ns)).placed.capabilities))
 answer (body n) = refusal_is (capability_answer_number (capability_of 9 n))
-answer (effect_at_lem o w) = touch_reply (touch_of p8_placed o w false)
+answer (effect_at o w) = touch_reply (touch_of p8_placed o w false)
 answer (written o w v) = reads (read_of (write_of plain o w v).state o w).answer
 answer (place aperture bars) = refusal_is (placement_number (placement_of aperture bars).answer)
 
@@ -100,15 +100,15 @@ cases =
     -- P6 Bodies 4, 0, 178 start at 0x40, 0x48, 0x4c and fit; with 179 the third is refused, 13.
     (starts (4 ∷ 0 ∷ 178 ∷ []) gives numbers_are (0x40 ∷ 0x48 ∷ 0x4c ∷ [])) ∷
     (bodies (4 ∷ 0 ∷ 178 ∷ []) gives refusal_is 0) ∷
-    (bodies (4 ∷ 0 ∷ 179 ∷ []) gives refusal_at_lem 13 2) ∷
+    (bodies (4 ∷ 0 ∷ 179 ∷ []) gives refusal_at 13 2) ∷
     -- P7 A lone body of 190 fits; 191 gives 13; 254 gives 10.
     (bodies (190 ∷ []) gives refusal_is 0) ∷
-    (bodies (191 ∷ []) gives refusal_at_lem 13 0) ∷
+    (bodies (191 ∷ []) gives refusal_at 13 0) ∷
     (body 254 gives refusal_is 10) ∷
     -- P8 Effect offset 3, length 2 at 0x40: byte 0x43 matches; word 0x42 and dword 0x44 give 19.
-    (effect_at_lem 0x43 1 gives touches (touch.Effect 9 p8_effect 3 0)) ∷
-    (effect_at_lem 0x42 2 gives refusal_is 19) ∷
-    (effect_at_lem 0x44 4 gives refusal_is 19) ∷
+    (effect_at 0x43 1 gives touches (touch.Effect 9 p8_effect 3 0)) ∷
+    (effect_at 0x42 2 gives refusal_is 19) ∷
+    (effect_at 0x44 4 gives refusal_is 19) ∷
     -- P9 Aperture 0x80000010 to 0x80001010, automatic 0x1000: 17.
     (place p9_aperture (one_automatic 0x1000) gives refusal_is 17) ∷
     -- P10 0xfc width 4 passes; 0x100, width 8, offset 1 width 2 give 18.

@@ -64,7 +64,7 @@ module _ (aperture : Aperture) (bar : MemoryBar) (placed : List Range) where
 
   -- a BAR that has a row has no address
   pub row_given : (n a : ℕ) → Row aperture bar placed n → Given aperture bar placed a → ⊥
-  row_given n a (row14 r) g = both (fixed_place r.address a r.fixed g).aligned r.not_multiple_lem
+  row_given n a (row14 r) g = both (fixed_place r.address a r.fixed g).aligned r.not_multiple
   row_given n a (row15 r) g = both (fixed_place r.address a r.fixed g).within r.outside
   row_given n a (row16 r) g = both r.overlaps (free_any (range r.address bar.size) placed (λ i h. (fixed_place r.address a r.fixed g).free i))
   row_given n a (row17 r) g = both (g.automatic r.automatic r.there).0 (r.no_place a)
@@ -75,7 +75,7 @@ module _ (aperture : Aperture) (bar : MemoryBar) (placed : List Range) where
   number_of Auto = no_place
 
   row_number : (n : ℕ) → Row aperture bar placed n → n ≡ number_of bar.request
-  row_number n (row14 r) = rw (r.fixed, r.not_multiple_lem)
+  row_number n (row14 r) = rw (r.fixed, r.not_multiple)
   row_number n (row15 r) = rw (r.fixed, r.not_14, r.outside)
   row_number n (row16 r) = rw (r.fixed, r.not_14, r.not_15)
   row_number n (row17 r) = rw r.automatic
@@ -126,5 +126,5 @@ module _ (aperture : Aperture) (bar : MemoryBar) (placed : List Range) where
       (true_or_false (meets_any r placed)))
       (λ (l : lies_in aperture r ≡ false). same_refusal v outside_aperture n key k (verdict_15 aperture placed key r m l) f (row15 (record { address = a; fixed = e; not_14 = m; outside = l })))
       (true_or_false (lies_in aperture r)))
-      (λ (m : multiple r ≡ false). same_refusal v not_multiple n key k (verdict_14 aperture placed key r m) f (row14 (record { address = a; fixed = e; not_multiple_lem = m })))
+      (λ (m : multiple r ≡ false). same_refusal v not_multiple n key k (verdict_14 aperture placed key r m) f (row14 (record { address = a; fixed = e; not_multiple = m })))
       (true_or_false (multiple r))

@@ -18,7 +18,7 @@ pub record Given (aperture : Aperture) (bar : MemoryBar) (placed : List Range) (
 pub record Row14 (bar : MemoryBar) : Type 0 where
   pub address : ℕ
   pub fixed : bar.request ≡ Fixed address
-  pub not_multiple_lem : multiple (range address bar.size) ≡ false
+  pub not_multiple : multiple (range address bar.size) ≡ false
 
 -- 15: "fixed range outside the aperture or past 64 bits", which no aperture reaches; 14 comes first
 pub record Row15 (aperture : Aperture) (bar : MemoryBar) : Type 0 where
