@@ -25,3 +25,4 @@ pub mod Views
 pub mod RustWalks
 pub mod RustModes
 pub mod Untouched
+mod ViewWalks
