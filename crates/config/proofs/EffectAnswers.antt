@@ -65,11 +65,11 @@ module _ (f : FunctionState) (o w : ℕ) where
   write_told v =
       write_by_lem (λ d. WriteTold d.reply.answer) f o w v
       (record {
-        bad_access_lem = λ x. tt;
+        bad_access = λ x. tt;
         probing = λ x y. tt;
         candidate = λ x y a g. tt;
         effect = λ x y id region offset regionOffset e. touch_answer f.placed o w true id region offset regionOffset e;
-        bad_effect_lem = λ x y g. tt;
+        bad_effect = λ x y g. tt;
         exhausts = λ x y g. tt;
         stores = λ x y u g. tt;
       })

@@ -65,7 +65,7 @@ module _ (space : ℕ) (f : Contents) (bars : List BarState) (p : Placed) (s : A
   identity_image j e =
       let a = identity_places f.identity j e in
       let u = under 0 (identity_fields f.identity) j in
-      header_image space f bars p s j (header_of j (omega (arith, a.low)) (λ q. omega (arith, a.low)) a.no_byte) a.no_bar_lem ∙
+      header_image space f bars p s j (header_of j (omega (arith, a.low)) (λ q. omega (arith, a.low)) a.no_byte) a.no_bar ∙
       under_none (under u (intx_fields f.intx) j) (list_fields p) j (list_none p j a.no_status (λ q. omega (arith, a.low))) ∙
       under_none u (intx_fields f.intx) j (intx_none f.intx j (omega (arith, a.low)))
 

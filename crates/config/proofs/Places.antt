@@ -102,7 +102,7 @@ module _ (p : Placed) (bytes : List ℕ) (j n : ℕ) where
 pub record Identified (j : ℕ) : Type 0 where
   pub low : j < layout.subsystem_device_id + 2
   pub no_byte : (j < layout.cache_line_size) ⊎ (layout.header_type ≤ j)
-  pub no_bar_lem : (j < layout.bar_start) ⊎ (layout.bar_end ≤ j)
+  pub no_bar : (j < layout.bar_start) ⊎ (layout.bar_end ≤ j)
   pub no_status : j ≡ layout.status → ⊥
 
 -- no place from o up to e is one, where no field of the identity lies there
@@ -112,11 +112,11 @@ identity_gap i o w j c a b e = absurd (both e (clear_none (identity_fields i) o 
 pub identity_places : (i : Identity) (j : ℕ) → any_has (identity_fields i) j ≡ true → Identified j
 unfolding clear
 identity_places i j e =
-    ⊎_elim (λ a. record { low = omega arith; no_byte = inl (omega arith); no_bar_lem = inl (omega arith); no_status = λ q. omega arith }) (λ a.
+    ⊎_elim (λ a. record { low = omega arith; no_byte = inl (omega arith); no_bar = inl (omega arith); no_status = λ q. omega arith }) (λ a.
     ⊎_elim (λ b. identity_gap i layout.command 4 j refl a b e) (λ b.
-    ⊎_elim (λ c. record { low = omega arith; no_byte = inl c; no_bar_lem = inl (omega arith); no_status = λ q. omega arith }) (λ c.
+    ⊎_elim (λ c. record { low = omega arith; no_byte = inl c; no_bar = inl (omega arith); no_status = λ q. omega arith }) (λ c.
     ⊎_elim (λ d. identity_gap i layout.cache_line_size 2 j refl c d e) (λ d.
-    ⊎_elim (λ f. record { low = omega arith; no_byte = inr d; no_bar_lem = inl (omega arith); no_status = λ q. omega arith }) (λ f.
+    ⊎_elim (λ f. record { low = omega arith; no_byte = inr d; no_bar = inl (omega arith); no_status = λ q. omega arith }) (λ f.
     ⊎_elim (λ g. identity_gap i (layout.header_type + 1) 0x1d j refl f g e) (λ g.
-    ⊎_elim (λ h. record { low = h; no_byte = inr (omega arith); no_bar_lem = inr (omega arith); no_status = λ q. omega arith }) (λ h. identity_gap i (layout.subsystem_device_id + 2) (suc j) j refl h (omega arith) e)
+    ⊎_elim (λ h. record { low = h; no_byte = inr (omega arith); no_bar = inr (omega arith); no_status = λ q. omega arith }) (λ h. identity_gap i (layout.subsystem_device_id + 2) (suc j) j refl h (omega arith) e)
     (below_or_not j (layout.subsystem_device_id + 2))) (below_or_not j layout.subsystem_vendor_id)) (below_or_not j (layout.header_type + 1))) (below_or_not j layout.header_type)) (below_or_not j layout.cache_line_size)) (below_or_not j layout.revision)) (below_or_not j layout.command)

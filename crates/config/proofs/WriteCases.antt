@@ -34,11 +34,11 @@ stored_in f o w v = stored f.mask f.live o w v
 
 -- what has to be shown of a write: one clause a case
 pub record Shown (P : WriteDone → Type 0) (f : FunctionState) (o w v : ℕ) : Type 0 where
-  pub bad_access_lem : access_of (space_of f) o w ≡ access.Refused → P (write_done BadAccess no_body f)
+  pub bad_access : access_of (space_of f) o w ≡ access.Refused → P (write_done BadAccess no_body f)
   pub probing : Aligned (space_of f) o w → in_bar f.bars o ≡ true → P (write_done (Probing (slot_at o)) no_body (with_bar f (slot_at o) (probed (bar_at f.bars (slot_at o)))))
   pub candidate : Aligned (space_of f) o w → in_bar f.bars o ≡ true → (a : ℕ) → asks (bar_at f.bars (slot_at o)) (o % bar_register_size) w v ≡ bar_write.Relocate a → P (write_done (Candidate (slot_at o) a) no_body f)
   pub effect : Aligned (space_of f) o w → in_bar f.bars o ≡ false → (id : ℕ) (region : PlacedEffect) (offset regionOffset : ℕ) → touch_of f.placed o w true ≡ touch.Effect id region offset regionOffset → P (write_done (Effect id region offset regionOffset) (snapshot_of f.placed f.live region.capability) f)
-  pub bad_effect_lem : Aligned (space_of f) o w → in_bar f.bars o ≡ false → touch_of f.placed o w true ≡ touch.Refused → P (write_done BadEffect no_body f)
+  pub bad_effect : Aligned (space_of f) o w → in_bar f.bars o ≡ false → touch_of f.placed o w true ≡ touch.Refused → P (write_done BadEffect no_body f)
   pub exhausts : Aligned (space_of f) o w → in_bar f.bars o ≡ false → exhausted f.live (stored_in f o w v) f.revision ≡ true → P (write_done Exhausted no_body f)
   pub stores : Aligned (space_of f) o w → in_bar f.bars o ≡ false → touch_of f.placed o w true ≡ touch.Untouched → exhausted f.live (stored_in f o w v) f.revision ≡ false → P (write_done Stored no_body (with_live f (stored_in f o w v) (revision_after f.live (stored_in f o w v) f.revision)))
 
@@ -60,7 +60,7 @@ module _ (P : WriteDone → Type 0) (f : FunctionState) (o w v : ℕ) (s : Shown
   touched : Aligned (space_of f) o w → in_bar f.bars o ≡ false → (t : Touch) → touch_of f.placed o w true ≡ t → P (write_touched f o w v t)
   touched a i touch.Untouched e = at_store a i e
   touched a i (touch.Effect id region offset regionOffset) e = s.effect a i id region offset regionOffset e
-  touched a i touch.Refused e = s.bad_effect_lem a i e
+  touched a i touch.Refused e = s.bad_effect a i e
 
   at_good : Aligned (space_of f) o w → P (write_good f o w v)
   at_good a =
@@ -69,7 +69,7 @@ module _ (P : WriteDone → Type 0) (f : FunctionState) (o w v : ℕ) (s : Shown
       (true_or_false (in_bar f.bars o))
 
   checked : (x : Access) → access_of (space_of f) o w ≡ x → P (write_checked f v x)
-  checked access.Refused e = s.bad_access_lem e
+  checked access.Refused e = s.bad_access e
   checked (access.Good p u) e = let r = access_is (space_of f) o w p u e in rw (r.1, r.2) (at_good r.0)
 
   -- every write is one of the cases
@@ -81,4 +81,4 @@ module _ (P : WriteDone → Type 0) (f : FunctionState) (o w v : ℕ) (s : Shown
 pub state_by : (P : FunctionState → Type 0) (f : FunctionState) (o w v : ℕ) → P f → P (with_bar f (slot_at o) (probed (bar_at f.bars (slot_at o)))) → P (with_live f (stored_in f o w v) (revision_after f.live (stored_in f o w v) f.revision)) → P (write_of f o w v).state
 state_by P f o w v same probe store =
     write_by_lem (λ d. P d.state) f o w v
-    (record { bad_access_lem = λ e. same; probing = λ a i. probe; candidate = λ a i x e. same; effect = λ a i id region offset regionOffset e. same; bad_effect_lem = λ a i e. same; exhausts = λ a i e. same; stores = λ a i u e. store })
+    (record { bad_access = λ e. same; probing = λ a i. probe; candidate = λ a i x e. same; effect = λ a i id region offset regionOffset e. same; bad_effect = λ a i e. same; exhausts = λ a i e. same; stores = λ a i u e. store })

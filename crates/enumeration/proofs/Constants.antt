@@ -110,7 +110,7 @@ module _ (d : Declaration) (b : Bus) (s : Sound d b) (k : ℕ) (h : k < d.count)
       let at : (i : ℕ) → i < w → Identified (o + i) = λ i m. identity_places its.contents.identity (o + i) (stands_has i t m) in
       let first = at 0 z in
       let last = at (w - 1) (omega arith) in
-      header_asked o w a (omega (arith, last.low)) (⊎_elim (λ p. inl (omega arith)) (λ p. inr (omega arith)) first.no_bar_lem) v
+      header_asked o w a (omega (arith, last.low)) (⊎_elim (λ p. inl (omega arith)) (λ p. inr (omega arith)) first.no_bar) v
       (λ i m. header_of (o + i) (omega (arith, (at i m).low)) (λ e. omega (arith, (at i m).low)) (at i m).no_byte) apart
       (λ i m. identity_image config_space_size its.contents bars laid admitted (o + i) (stands_has i t m) ∙ stands_under 0 i t m) ∙
       mod-eq_of_lt l
