@@ -1,2 +1,3 @@
 -- The refusals of document 01.
 pub mod Number
+pub mod Refusal
