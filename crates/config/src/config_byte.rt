@@ -64,14 +64,12 @@ pub fn check_config_bytes(space: u16, contents: Contents, placed: Placed) -> Byt
     ensures { result ≡ byte_check_of space contents placed }
 {
     let n = byte_count(contents);
-    let mut i = 0;
-    while i < n {
+    for i in 0..n {
         let byte = contents.bytes[i];
         let good = byte_ok(space, placed, byte.offset);
         if !good {
             return ByteCheck::Bad(i);
         }
-        i += 1;
     }
     ByteCheck::Good
 }

@@ -18,14 +18,9 @@ pub fn put_word(image: &mut [u8], offset: usize, value: u16)
 pub fn copy(image: &mut [u8], offset: usize, length: usize, base: usize, bytes: &[u8])
     ensures { image.new ≡ laid image.old (part offset length base bytes.now ∷ []) }
 {
-    let room = word::past(image.len(), offset);
-    let mut i = 0;
-    while i < length {
-        if room <= i {
-            return;
-        }
+    let n = word::at_most(length, word::past(image.len(), offset));
+    for i in 0..n {
         let at = offset + i;
         image[at] = word::byte_at(bytes, word::past(at, base));
-        i += 1;
     }
 }

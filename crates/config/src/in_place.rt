@@ -3,7 +3,7 @@ ghost use Rattle.std.specs.Prelude.{◌≡◌};
 ghost use Rattle.config.specs.Write.{write_of};
 
 use crate::state::FunctionState;
-use crate::write_step::{WriteDone, WriteReply, write};
+use crate::write_step::{WriteReply, write};
 
 // `width` bytes of `value`, to be written at `offset`.
 #[repr(C)]
@@ -14,18 +14,11 @@ pub struct ConfigWrite {
     pub value: u64,
 }
 
-// The step by value, its arguments in one struct.
-fn write_parts(state: FunctionState, w: ConfigWrite) -> WriteDone
-    ensures { result ≡ write_of state w.offset w.width w.value }
-{
-    write(state, w.offset, w.width, w.value)
-}
-
 // Writes to a lent state; a candidate is put to the bus, as `write` does.
 pub fn write_in_place(state: &mut FunctionState, w: ConfigWrite) -> WriteReply
     ensures { (result ≡ (write_of state.old w.offset w.width w.value).reply) × (state.new ≡ (write_of state.old w.offset w.width w.value).state) }
 {
-    let d = write_parts(*state, w);
+    let d = write(*state, w.offset, w.width, w.value);
     *state = d.state;
     d.reply
 }

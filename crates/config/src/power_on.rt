@@ -92,14 +92,12 @@ fn put_config_bytes(image: &mut [u8], mask: &mut [u8], contents: Contents)
     ensures { (image.new ≡ laid image.old (byte_values contents (byte_count contents))) × (mask.new ≡ laid mask.old (byte_masks contents (byte_count contents))) }
 {
     let n = byte_count(contents);
-    let mut i = 0;
-    while i < n {
+    for i in 0..n {
         let byte = contents.bytes[i];
         let offset = byte.offset;
         let at = offset.value() as usize;
         put_byte(image, at, byte.value);
         put_byte(mask, at, byte.mask);
-        i += 1;
     }
 }
 
@@ -123,11 +121,9 @@ fn put_bar(image: &mut [u8], bar: BarState, slot: u8)
 fn put_bars(image: &mut [u8], bars: [BarState; BAR_SLOTS])
     ensures { image.new ≡ laid image.old (bar_fields bars bar_count) }
 {
-    let mut slot = 0;
-    while slot < config_layout::BAR_COUNT {
+    for slot in 0..config_layout::BAR_COUNT {
         let bar = bars[slot as usize];
         put_bar(image, bar, slot);
-        slot += 1;
     }
 }
 
@@ -183,12 +179,10 @@ fn put_capabilities(image: &mut [u8], mask: &mut [u8], bodies: &[u8], masks: &[u
     ensures { (image.new ≡ laid image.old (capability_fields placed bodies.now (capability_count placed))) × (mask.new ≡ laid mask.old (capability_masks placed masks.now (capability_count placed))) }
 {
     let n = capability_count(placed);
-    let mut i = 0;
-    while i < n {
+    for i in 0..n {
         put_header(image, placed, i);
         put_body(image, bodies, placed, i);
         put_body(mask, masks, placed, i);
-        i += 1;
     }
 }
 

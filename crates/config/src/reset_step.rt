@@ -37,13 +37,7 @@ pub struct ResetDone {
 pub fn reset_bars(bars: [BarState; BAR_SLOTS]) -> [BarState; BAR_SLOTS]
     ensures { result ≡ map reset_of bars }
 {
-    let mut out = bars;
-    for i in 0..BAR_SLOTS {
-        let bar = out[i];
-        let fresh = bar.reset();
-        out[i] = fresh;
-    }
-    out
+    bars.map(|bar| bar.reset())
 }
 
 pub fn reset(state: FunctionState) -> ResetDone
