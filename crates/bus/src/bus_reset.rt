@@ -37,13 +37,11 @@ fn reset_answer(bus: Bus) -> BusResetAnswer
     ensures { result ≡ reset_answer bus }
 {
     let count = count_on(bus.count);
-    let mut k = 0;
-    while k < count {
+    for k in 0..count {
         let function = bus.functions[k];
         if function.revision == LARGEST_REVISION {
             return BusResetAnswer::Exhausted(bus.devices[k]);
         }
-        k += 1;
     }
     BusResetAnswer::Restored
 }
@@ -57,12 +55,9 @@ fn reset_functions(
     ensures { result ≡ reset_first functions count }
 {
     let mut out = functions;
-    let mut k = 0;
-    while k < count {
+    for k in 0..count {
         let done = config::reset(out[k]);
-        let state = done.state;
-        out[k] = state;
-        k += 1;
+        out[k] = done.state;
     }
     out
 }

@@ -5,7 +5,7 @@ ghost use Rattle.bus.specs.Reset.{bus_reset_of};
 
 use crate::bus_reset::{BusResetAnswer, reset};
 use crate::state::Bus;
-use crate::write_access::{BusWriteDone, BusWriteReply, write};
+use crate::write_access::{BusWriteReply, write};
 
 // `width` bytes of `value`, to be written at `offset` of a device.
 #[repr(C)]
@@ -17,18 +17,11 @@ pub struct BusWrite {
     pub value: u64,
 }
 
-// The step by value, its arguments in one struct.
-fn write_parts(bus: Bus, w: BusWrite) -> BusWriteDone
-    ensures { result ≡ bus_write_of bus w.device w.offset w.width w.value }
-{
-    write(bus, w.device, w.offset, w.width, w.value)
-}
-
 // Writes to a lent bus.
 pub fn write_in_place(bus: &mut Bus, w: BusWrite) -> BusWriteReply
     ensures { (result ≡ (bus_write_of bus.old w.device w.offset w.width w.value).reply) × (bus.new ≡ (bus_write_of bus.old w.device w.offset w.width w.value).bus) }
 {
-    let d = write_parts(*bus, w);
+    let d = write(*bus, w.device, w.offset, w.width, w.value);
     *bus = d.bus;
     d.reply
 }

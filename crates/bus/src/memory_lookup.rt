@@ -67,14 +67,7 @@ fn lies_within(range: Range, address: u64, width: usize) -> bool
 fn decoding_on(bus: Bus) -> [bool; FUNCTION_LIMIT]
     ensures { result ≡ decoding_on bus }
 {
-    let mut decoding = [false; FUNCTION_LIMIT];
-    let mut k = 0;
-    while k < FUNCTION_LIMIT {
-        let function = bus.functions[k];
-        decoding[k] = decodes_memory(function);
-        k += 1;
-    }
-    decoding
+    bus.functions.map(|function| decodes_memory(function))
 }
 
 // Whether a BAR with this range, of a function that answers or does not, holds an access.
@@ -97,8 +90,7 @@ pub fn lookup(bus: Bus, address: u64, width: usize) -> LookupAnswer
     }
     let ranges = ranges_on(bus);
     let decoding = decoding_on(bus);
-    let mut key = 0;
-    while key < KEY_COUNT {
+    for key in 0..KEY_COUNT {
         let held = holds(decoding[key / BAR_SLOTS], ranges[key], address, width);
         if held {
             let range = ranges[key];
@@ -108,7 +100,6 @@ pub fn lookup(bus: Bus, address: u64, width: usize) -> LookupAnswer
                 offset: address - range.start,
             };
         }
-        key += 1;
     }
     LookupAnswer::Miss
 }

@@ -14,6 +14,7 @@ use capability::layout_capabilities;
 use config::{Function, FunctionState, PowerOn};
 use declaration::{Declaration, DeclarationAnswer, Place, read_declaration};
 use placement::{DeclaredBars, FunctionBars, KEY_COUNT, PlacementAnswer, resolve_bar_addresses};
+use std::array;
 
 // Accepted with the bus, or refused with number and place and the empty bus.
 #[derive(Clone, Copy)]
@@ -37,17 +38,11 @@ fn function_bars(function: Function) -> FunctionBars
 fn declared_bars(declaration: Declaration) -> DeclaredBars
     ensures { result ≡ declared_bars declaration }
 {
-    let first = function_bars(declaration.functions[0]);
-    let mut functions = [first; FUNCTION_LIMIT];
-    let mut k = 0;
-    while k < FUNCTION_LIMIT {
-        let bars = function_bars(declaration.functions[k]);
-        functions[k] = bars;
-        k += 1;
-    }
     DeclaredBars {
         count: declaration.count,
-        functions,
+        functions: declaration
+            .functions
+            .map(|function| function_bars(function)),
     }
 }
 
@@ -67,21 +62,14 @@ fn bars_placed(function: Function, addresses: [u64; KEY_COUNT], k: usize) -> [Ba
     requires { k < function_room }
     ensures { result ≡ bars_placed function addresses k }
 {
-    let none = BarState::none();
-    let mut bars = [none; BAR_SLOTS];
-    let mut i = 0;
-    while i < BAR_SLOTS {
+    array::from_fn(|i| {
         let bar = function.bars[i];
-        let plan = Plan {
+        BarState::new(Plan {
             slot: slot_at(i),
             size: bar.size(),
             address: addresses[k * BAR_SLOTS + i],
-        };
-        let state = BarState::new(plan);
-        bars[i] = state;
-        i += 1;
-    }
-    bars
+        })
+    })
 }
 
 // The function at an index, at power-on.
@@ -104,11 +92,9 @@ fn devices_of(declaration: Declaration) -> [u8; FUNCTION_LIMIT]
 {
     let count = word::at_most(declaration.count, FUNCTION_LIMIT);
     let mut devices = [0u8; FUNCTION_LIMIT];
-    let mut k = 0;
-    while k < count {
+    for k in 0..count {
         let function = declaration.functions[k];
         devices[k] = function.device;
-        k += 1;
     }
     devices
 }
@@ -123,12 +109,8 @@ fn functions_of(
     let count = word::at_most(declaration.count, FUNCTION_LIMIT);
     let none = no_function_state();
     let mut functions = [none; FUNCTION_LIMIT];
-    let mut k = 0;
-    while k < count {
-        let function = declaration.functions[k];
-        let state = function_start(function, addresses, k);
-        functions[k] = state;
-        k += 1;
+    for k in 0..count {
+        functions[k] = function_start(declaration.functions[k], addresses, k);
     }
     functions
 }

@@ -32,14 +32,12 @@ pub fn ranges_on(bus: Bus) -> [Range; KEY_COUNT]
 {
     let end = count_on(bus.count) * BAR_SLOTS;
     let mut ranges = no_ranges();
-    let mut key = 0;
-    while key < end {
+    for key in 0..end {
         let function = bus.functions[key / BAR_SLOTS];
         let bars = function.bars;
         let bar = bars[key % BAR_SLOTS];
         let range = bar.range();
         ranges[key] = range;
-        key += 1;
     }
     ranges
 }

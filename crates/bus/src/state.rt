@@ -67,14 +67,12 @@ pub(crate) fn count_on(count: usize) -> usize
 pub fn index_of(devices: &[u8], count: usize, device: usize) -> usize
     ensures { result ≡ index_in devices.now count device }
 {
-    let mut k = 0;
-    while k < count {
+    for k in 0..count {
         if (word::byte_at(devices, k) as usize) == device {
             return k;
         }
-        k += 1;
     }
-    k
+    count
 }
 
 // The function at an index; the blank one past the last place.

@@ -60,8 +60,7 @@ fn list_from(bus: Bus, device: usize, pointer: u8) -> ListDone
 {
     let mut list = no_list();
     let mut at = pointer;
-    let mut n = 0;
-    while n < CAPABILITY_LIMIT {
+    for n in 0..CAPABILITY_LIMIT {
         let there = goes_on(bus, device, at);
         if !there {
             return ListDone { list, count: n };
@@ -69,9 +68,11 @@ fn list_from(bus: Bus, device: usize, pointer: u8) -> ListDone
         let listed = listed_at(bus, device, at);
         list[n] = listed;
         at = next_pointer(bus, device, at);
-        n += 1;
     }
-    ListDone { list, count: n }
+    ListDone {
+        list,
+        count: CAPABILITY_LIMIT,
+    }
 }
 
 // The list, if status says that there is one.

@@ -82,14 +82,12 @@ pub(crate) fn enumerate_slots(bus: Bus, device: usize) -> SlotsDone
 {
     let mut slots = no_slots();
     let mut now = bus;
-    let mut i = 0;
-    while i < BAR_SLOTS {
+    for i in 0..BAR_SLOTS {
         let done = enumerate_slot(now, device, i);
         let report = done.report;
         slots[i] = report;
         let after = done.bus;
         now = after;
-        i += 1;
     }
     SlotsDone { slots, bus: now }
 }

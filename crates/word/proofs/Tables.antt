@@ -31,6 +31,11 @@ module _ {A : Type 0} where
   table_ext zero f g h = refl
   table_ext (suc n) f g h = rw (h 0 (omega arith), table_ext n (λ k. f (suc k)) (λ k. g (suc k)) (λ k l. h (suc k) (omega arith)))
 
+  -- a list that has at each index what the function says is the table, as an array's `map` and `from_fn` give it
+  pub table_by : (n : ℕ) (f : ℕ → A) (d : A) (l : List A) → length l ≡ n → ((k : ℕ) → k < n → get_or l k d ≡ f k) → l ≡ table n f
+  table_by n f d l e h =
+      ext_get_or d l (table n f) (e ∙ sym (length_table n f)) (λ k i. let k< : k < n = rw e at i in h k k< ∙ sym (get_or_table n f k d k<))
+
   -- a list is the table of its elements
   pub table_get_d : (d : A) (l : List A) → table (length l) (λ k. get_or l k d) ≡ l
   unfolding table

@@ -17,23 +17,23 @@ long : (c : Start) → length c.args.bus.functions ≡ function_room
 long c = search (rules, long_unmapped)
 
 pub loop-k-init : goal.loop-k-init
-loop-k-init c = (c.count_on-count.ensures, omega arith, any_none (spent_at c.args.bus))
+loop-k-init c = any_none (spent_at c.args.bus)
 
 pub returns-then-function : goal.returns-then-function
 returns-then-function c =
     let l = c.loop-k in
     let b = c.args.bus in
-    sym (first_is (λ k. Exhausted (device_at b k)) Restored (spent_at b) (count_on b) l.k (record { below = omega (arith, l.invariant.0); before = any_never (spent_at b) l.k l.invariant.2; here = eq-eqb _ _ (rw (function_there b l.k (long (goal.at.returns-then-function c).Start) (omega (arith, l.invariant.0))) at c.if-function.true) }))
+    sym (first_is (λ k. Exhausted (device_at b k)) Restored (spent_at b) (count_on b) l.k (record { below = omega (arith, c.count_on-count.ensures); before = any_never (spent_at b) l.k l.invariant; here = eq-eqb _ _ (rw (function_there b l.k (long (goal.at.returns-then-function c).Start) (omega (arith, c.count_on-count.ensures))) at c.if-function.true) }))
 
 pub loop-k-preserved : goal.loop-k-preserved
 loop-k-preserved c =
     let l = c.loop-k in
     let b = c.args.bus in
-    (l.invariant.0, omega arith, any_more (spent_at b) l.k l.invariant.2 (ne_eqb _ _ (rw (function_there b l.k (long (goal.at.loop-k-preserved c).Start) (omega (arith, l.invariant.0))) at c.if-function.false)))
+    any_more (spent_at b) l.k l.invariant (ne_eqb _ _ (rw (function_there b l.k (long (goal.at.loop-k-preserved c).Start) (omega (arith, c.count_on-count.ensures))) at c.if-function.false))
 
 pub returns : goal.returns
 returns c =
     let l = c.loop-k in
     let b = c.args.bus in
-    let e : l.k ≡ count_on b = omega (arith, l.invariant.0) in
-    sym (first_none (λ k. Exhausted (device_at b k)) Restored (spent_at b) (count_on b) (any_never (spent_at b) (count_on b) (rw e at l.invariant.2)))
+    let e : l.k ≡ count_on b = omega (arith, c.count_on-count.ensures) in
+    sym (first_none (λ k. Exhausted (device_at b k)) Restored (spent_at b) (count_on b) (any_never (spent_at b) (count_on b) (rw e at l.invariant)))

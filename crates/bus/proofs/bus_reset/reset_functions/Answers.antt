@@ -14,15 +14,9 @@ long : (c : Start) → length c.args.functions ≡ function_room
 long c = search (rules, long_unmapped)
 
 pub loop-k-init : goal.loop-k-init
-loop-k-init c = (omega arith, sym (reset_none _))
+loop-k-init c = sym (reset_none _)
 
 pub loop-k-preserved : goal.loop-k-preserved
 loop-k-preserved c =
     let l = c.loop-k in
-    (omega arith, reset_more _ l.k l.out _ _ (omega (arith, long (goal.at.loop-k-preserved c).Start)) l.invariant.1 (ap (λ (d : ResetDone). d.state) c.reset-done.ensures ∙ reset_state _))
-
-pub returns : goal.returns
-returns c =
-    let l = c.loop-k in
-    let e : l.k ≡ c.args.count = omega arith in
-    rw (← e) l.invariant.1
+    reset_more _ l.k l.out _ _ (omega (arith, long (goal.at.loop-k-preserved c).Start)) l.invariant (ap (λ (d : ResetDone). d.state) c.reset-done.ensures ∙ reset_state _)

@@ -17,39 +17,20 @@ long : (c : Start) → length c.args.declaration.functions ≡ function_room
 long c = search (rules, long_unmapped)
 
 pub loop-k-init : goal.loop-k-init
-loop-k-init c = (omega arith, c.at_most-count.ensures, blank_filled function_room (λ j. (declared_function c.args.declaration j).device) 0)
-
-pub offset_bounds-declaration-k : goal.offset_bounds-declaration-k
-offset_bounds-declaration-k c = omega (arith, c.loop-k.invariant.1)
-
-pub bounds-declaration-k : goal.bounds-declaration-k
-bounds-declaration-k c = omega (arith, c.loop-k.invariant.1)
-
-pub bounds-devices-k : goal.bounds-devices-k
-bounds-devices-k c = omega (arith, c.loop-k.invariant.1)
-
-pub overflow_add-k : goal.overflow_add-k
-overflow_add-k c = omega (arith, c.loop-k.invariant.1)
-
-pub loop-k-smaller : goal.loop-k-smaller
-loop-k-smaller c = omega arith
+loop-k-init c = blank_filled function_room (λ j. (declared_function c.args.declaration j).device) 0
 
 pub loop-k-preserved : goal.loop-k-preserved
 loop-k-preserved c =
     let l = c.loop-k in
     let d = c.args.declaration in
-    let m : l.k < function_room = omega (arith, l.invariant.1, c.loop-k-test.true) in
-    let h : l.k < length d.functions = omega (arith, long (goal.at.loop-k-preserved c).Start) in (
-      omega arith,
-      l.invariant.1,
-      rw l.invariant.2
-          (filled_more function_room (λ j. (declared_function d j).device) 0 l.k _ m (ap (λ (f : Function). f.device) (get_or_inside d.functions l.k _ no_function h))),
-    )
+    let m : l.k < function_room = omega (arith, c.at_most-count.ensures) in
+    let h : l.k < length d.functions = omega (arith, long (goal.at.loop-k-preserved c).Start) in
+    rw l.invariant (filled_more function_room (λ j. (declared_function d j).device) 0 l.k _ m (ap (λ (f : Function). f.device) (get_or_inside d.functions l.k _ no_function h)))
 
 pub returns : goal.returns
 unfolding devices_of
 returns c =
     let l = c.loop-k in
     let d = c.args.declaration in
-    let e : l.k ≡ min d.count function_room = omega (arith, l.invariant.1) in
-    l.invariant.2 ∙ rw e (filled_cut function_room d.count (λ j. (declared_function d j).device) 0)
+    let e : l.k ≡ min d.count function_room = omega (arith, c.at_most-count.ensures) in
+    l.invariant ∙ rw e (filled_cut function_room d.count (λ j. (declared_function d j).device) 0)

@@ -20,47 +20,23 @@ long c = search (rules, long_unmapped)
 pub loop-k-init : goal.loop-k-init
 loop-k-init c =
     let a = c.args in
-    (omega arith, c.at_most-count.ensures, rw c.no_function_state-none.ensures (blank_filled function_room (λ j. function_start (declared_function a.declaration j) a.addresses j) no_function_state))
-
-pub offset_bounds-declaration-k : goal.offset_bounds-declaration-k
-offset_bounds-declaration-k c = omega (arith, c.loop-k.invariant.1)
-
-pub bounds-declaration-k : goal.bounds-declaration-k
-bounds-declaration-k c = omega (arith, c.loop-k.invariant.1)
-
-pub function_start-state-requires : goal.function_start-state-requires
-function_start-state-requires c = omega (arith, c.loop-k.invariant.1)
-
-pub offset_bounds-functions-k : goal.offset_bounds-functions-k
-offset_bounds-functions-k c = omega (arith, c.loop-k.invariant.1)
-
-pub bounds-functions-k : goal.bounds-functions-k
-bounds-functions-k c = omega (arith, c.loop-k.invariant.1)
-
-pub overflow_add-k : goal.overflow_add-k
-overflow_add-k c = omega (arith, c.loop-k.invariant.1)
-
-pub loop-k-smaller : goal.loop-k-smaller
-loop-k-smaller c = omega arith
+    rw c.no_function_state-none.ensures (blank_filled function_room (λ j. function_start (declared_function a.declaration j) a.addresses j) no_function_state)
 
 pub loop-k-preserved : goal.loop-k-preserved
 loop-k-preserved c =
     let l = c.loop-k in
     let a = c.args in
     let d = a.declaration in
-    let m : l.k < function_room = omega (arith, l.invariant.1, c.loop-k-test.true) in
-    let h : l.k < length d.functions = omega (arith, long (goal.at.loop-k-preserved c).Start) in (
-      omega arith,
-      l.invariant.1,
-      rw l.invariant.2
-          (filled_more function_room (λ j. function_start (declared_function d j) a.addresses j) no_function_state l.k c.function_start-state.result m
-          (c.function_start-state.ensures ∙ ap (λ (f : Function). function_start f a.addresses l.k) (get_or_inside d.functions l.k _ no_function h))),
-    )
+    let m : l.k < function_room = omega (arith, c.at_most-count.ensures) in
+    let h : l.k < length d.functions = omega (arith, long (goal.at.loop-k-preserved c).Start) in
+    rw l.invariant
+    (filled_more function_room (λ j. function_start (declared_function d j) a.addresses j) no_function_state l.k c.function_start.result m
+    (c.function_start.ensures ∙ ap (λ (f : Function). function_start f a.addresses l.k) (get_or_inside d.functions l.k _ no_function h)))
 
 pub returns : goal.returns
 unfolding functions_of
 returns c =
     let l = c.loop-k in
     let a = c.args in
-    let e : l.k ≡ min a.declaration.count function_room = omega (arith, l.invariant.1) in
-    l.invariant.2 ∙ rw e (filled_cut function_room a.declaration.count (λ j. function_start (declared_function a.declaration j) a.addresses j) no_function_state)
+    let e : l.k ≡ min a.declaration.count function_room = omega (arith, c.at_most-count.ensures) in
+    l.invariant ∙ rw e (filled_cut function_room a.declaration.count (λ j. function_start (declared_function a.declaration j) a.addresses j) no_function_state)

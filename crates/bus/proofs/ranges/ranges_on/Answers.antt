@@ -22,38 +22,20 @@ long : (c : Start) → length c.args.bus.functions ≡ function_room
 long c = search (rules, long_unmapped)
 
 pub loop-key-init : goal.loop-key-init
-loop-key-init c = (rw c.count_on-end.ensures, omega arith, c.no_ranges-ranges.ensures ∙ blank_filled key_count (range_on _) no_range)
-
-pub offset_bounds-bus-key : goal.offset_bounds-bus-key
-offset_bounds-bus-key c = let l = c.loop-key in omega (arith, l.invariant.0)
-
-pub bounds-bus-key : goal.bounds-bus-key
-bounds-bus-key c = let l = c.loop-key in omega (arith, l.invariant.0)
-
-pub offset_bounds-ranges-key : goal.offset_bounds-ranges-key
-offset_bounds-ranges-key c = let l = c.loop-key in omega (arith, l.invariant.0)
-
-pub bounds-ranges-key : goal.bounds-ranges-key
-bounds-ranges-key c = let l = c.loop-key in omega (arith, l.invariant.0)
-
-pub overflow_add-key : goal.overflow_add-key
-overflow_add-key c = let l = c.loop-key in omega (arith, l.invariant.0)
+loop-key-init c = c.no_ranges-ranges.ensures ∙ blank_filled key_count (range_on _) no_range
 
 pub loop-key-preserved : goal.loop-key-preserved
 loop-key-preserved c =
     let l = c.loop-key in
     let b = c.args.bus in
-    let k : l.key / bar_count < count_on b = omega (arith, l.invariant.0) in (
-      l.invariant.0,
-      omega arith,
-      rw l.invariant.2
-          (filled_more key_count (range_on b) no_range l.key _ (omega arith)
-          (c.range-range.ensures ∙ ap (λ (f : FunctionState). range_of (bar_at f.bars (l.key % bar_count))) (function_there b (l.key / bar_count) (long (goal.at.loop-key-preserved c).Start) (omega arith)) ∙ sym (range_there b l.key k))),
-    )
+    let k : l.key / bar_count < count_on b = omega (arith, c.count_on-end.ensures) in
+    rw l.invariant
+    (filled_more key_count (range_on b) no_range l.key _ (omega arith)
+    (c.range-range.ensures ∙ ap (λ (f : FunctionState). range_of (bar_at f.bars (l.key % bar_count))) (function_there b (l.key / bar_count) (long (goal.at.loop-key-preserved c).Start) (omega arith)) ∙ sym (range_there b l.key k)))
 
 pub returns : goal.returns
 returns c =
     let l = c.loop-key in
     let b = c.args.bus in
-    let e : l.key ≡ count_on b * bar_count = omega (arith, l.invariant.0) in
-    l.invariant.2 ∙ rw e (ranges_filled b)
+    let e : l.key ≡ count_on b * bar_count = omega (arith, c.count_on-end.ensures) in
+    l.invariant ∙ rw e (ranges_filled b)

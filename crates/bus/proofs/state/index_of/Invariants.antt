@@ -1,5 +1,5 @@
 -- `index_of` at k has seen that no device before k is the one asked for.
-use Prim.Native.Nat.{ℕ, ◌-◌, ◌≤◌}
+use Prim.Native.Nat.{ℕ}
 use mathlib.Core.Bool.{Bool, false}
 use mathlib.Core.List.{List}
 use mathlib.Core.Path.{◌≡◌}
@@ -13,7 +13,4 @@ abbrev pub is : List ℕ → ℕ → ℕ → Bool
 is devices device k = eqb (get_or devices k 0) device
 
 abbrev pub invariant-loop-k : goal.invariant-loop-k
-invariant-loop-k l = (l.k ≤ l.count) × (any_below (is l.devices l.device) l.k ≡ false)
-
-abbrev pub decreases-loop-k : goal.decreases-loop-k
-decreases-loop-k l = l.count - l.k
+invariant-loop-k l = any_below (is l.devices l.device) l.k ≡ false

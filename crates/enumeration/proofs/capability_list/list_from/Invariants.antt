@@ -1,5 +1,5 @@
 -- `list_from` at n has listed the first n of the whole, and what its pointer leads to is the rest.
-use Prim.Native.Nat.{ℕ, ◌-◌, ◌≤◌}
+use Prim.Native.Nat.{ℕ}
 use mathlib.Core.List.{List}
 use mathlib.Core.Path.{◌≡◌}
 use lib.ListN.{get_or}
@@ -19,7 +19,4 @@ abbrev pub listed_up_to : Bus → ℕ → ℕ → ℕ → List Listed
 listed_up_to b d start n = filled capability_room n (listed_in b d start) no_listed
 
 abbrev pub invariant-loop-n : goal.invariant-loop-n
-invariant-loop-n l = (l.n ≤ capability_room) × ((l.list ≡ listed_up_to l.bus l.device l.pointer l.n) × Followed l.bus l.device capability_room l.pointer l.n l.at)
-
-abbrev pub decreases-loop-n : goal.decreases-loop-n
-decreases-loop-n l = capability_room - l.n
+invariant-loop-n l = (l.list ≡ listed_up_to l.bus l.device l.pointer l.n) × Followed l.bus l.device capability_room l.pointer l.n l.at

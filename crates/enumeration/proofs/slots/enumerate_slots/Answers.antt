@@ -17,18 +17,15 @@ pub loop-i-init : goal.loop-i-init
 unfolding after_slots
 loop-i-init c =
     let a = c.args in
-    (omega arith, (c.no_slots-slots.ensures ∙ blank_filled bar_count (slot_at a.bus a.device) empty_slot, refl))
+    (c.no_slots-slots.ensures ∙ blank_filled bar_count (slot_at a.bus a.device) empty_slot, refl)
 
 pub loop-i-preserved : goal.loop-i-preserved
 loop-i-preserved c =
     let l = c.loop-i in
     let a = c.args in
     let done = c.enumerate_slot-done.ensures in (
-      omega arith,
-      (
-        rw l.invariant.1.0 (filled_more bar_count (slot_at a.bus a.device) empty_slot l.i _ (omega arith) (done.0 ∙ rw l.invariant.1.1)),
-        done.1 ∙ rw l.invariant.1.1 (next_slot a.bus a.device l.i),
-      ),
+      rw l.invariant.0 (filled_more bar_count (slot_at a.bus a.device) empty_slot l.i _ (omega arith) (done.0 ∙ rw l.invariant.1)),
+      done.1 ∙ rw l.invariant.1 (next_slot a.bus a.device l.i),
     )
 
 pub returns : goal.returns
@@ -36,4 +33,4 @@ returns c =
     let l = c.loop-i in
     let a = c.args in
     let e : l.i ≡ bar_count = omega arith in
-    (l.invariant.1.0 ∙ rw e (filled_all bar_count (slot_at a.bus a.device) empty_slot), l.invariant.1.1 ∙ rw e refl)
+    (l.invariant.0 ∙ rw e (filled_all bar_count (slot_at a.bus a.device) empty_slot), l.invariant.1 ∙ rw e refl)

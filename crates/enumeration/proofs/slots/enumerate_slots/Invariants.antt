@@ -1,5 +1,5 @@
 -- `enumerate_slots` at i has the first i slots, on the bus after them.
-use Prim.Native.Nat.{ℕ, ◌-◌, ◌≤◌}
+use Prim.Native.Nat.{ℕ}
 use mathlib.Core.Path.{◌≡◌}
 use Rattle.word.specs.Table.{filled}
 use Rattle.address.specs.Layout.{bar_count}
@@ -13,7 +13,4 @@ abbrev pub slot_at : Bus → ℕ → ℕ → SlotReport
 slot_at b d k = slot_read (after_slots b d k) d k
 
 abbrev pub invariant-loop-i : goal.invariant-loop-i
-invariant-loop-i l = (l.i ≤ bar_count) × ((l.slots ≡ filled bar_count l.i (slot_at l.initial.now l.device) empty_slot) × (l.now ≡ after_slots l.initial.now l.device l.i))
-
-abbrev pub decreases-loop-i : goal.decreases-loop-i
-decreases-loop-i l = bar_count - l.i
+invariant-loop-i l = (l.slots ≡ filled bar_count l.i (slot_at l.initial.now l.device) empty_slot) × (l.now ≡ after_slots l.initial.now l.device l.i)
