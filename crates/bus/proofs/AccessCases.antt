@@ -40,7 +40,7 @@ module _ (P : BusWriteDone → Type 0) (b : Bus) (o w v : ℕ) (s : Shown P b o 
     stepped body (write_answer.Candidate i a) e =
         let l = candidate_slot (function_at b k) o w v i a e in
         ⊎_elim (λ (t : accepts b k i a ≡ true). rw t (s.moved k i a h l t)) (λ (t : accepts b k i a ≡ false). rw t (s.kept k i a h l t)) (true_or_false (accepts b k i a))
-    stepped body (write_answer.Effect id region offset regionOffset) e = s.still (Effect id region offset regionOffset) body refl
+    stepped body (write_answer.Effect hit) e = s.still (Effect hit) body refl
     stepped body write_answer.BadAccess e = s.still BadAccess body refl
     stepped body write_answer.BadEffect e = s.still BadEffect body refl
     stepped body write_answer.Exhausted e = s.still (Exhausted (device_at b k)) body refl

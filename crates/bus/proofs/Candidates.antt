@@ -22,7 +22,7 @@ candidate_slot f o w v =
       bad_access = λ x i a e. let z : ◌≡◌ {A = ℕ} 0 1 = cc in absurd (omega arith);
       probing = λ x y i a e. let z : ◌≡◌ {A = ℕ} 0 1 = cc in absurd (omega arith);
       candidate = λ x y b g i a e. let s : i ≡ slot_at o = cc in rw s (in_bar_slot f.bars o y);
-      effect = λ x y id region offset regionOffset g i a e. let z : ◌≡◌ {A = ℕ} 0 1 = cc in absurd (omega arith);
+      effect = λ x y hit g i a e. let z : ◌≡◌ {A = ℕ} 0 1 = cc in absurd (omega arith);
       bad_effect = λ x y g i a e. let z : ◌≡◌ {A = ℕ} 0 1 = cc in absurd (omega arith);
       exhausts = λ x y g i a e. let z : ◌≡◌ {A = ℕ} 0 1 = cc in absurd (omega arith);
       stores = λ x y u g i a e. let z : ◌≡◌ {A = ℕ} 0 1 = cc in absurd (omega arith);

@@ -10,7 +10,7 @@ use Rattle.address.specs.Check.{access_of}
 use Rattle.address.specs.declared.access.Access.{Access}
 use Rattle.address.specs.declared.access.Access.TheVariants as access
 use Rattle.capability.specs.Answer.{Answer}
-use Rattle.capability.specs.declared.placed.PlacedEffect.{PlacedEffect}
+use Rattle.capability.specs.declared.effect_access.EffectHit.{EffectHit}
 use Rattle.capability.specs.declared.snapshot.Snapshot.{Snapshot}
 use Rattle.config.specs.Write.{write_of}
 use Rattle.config.specs.declared.state.FunctionState.{FunctionState}
@@ -25,17 +25,17 @@ use Rattle.bus.specs.declared.write_access.BusWriteAnswer.{BusWriteAnswer}
 use Rattle.bus.specs.declared.write_access.BusWriteAnswer.TheVariants.{Stored, Dropped, Probing, Moved, Kept, Effect, BadAccess, BadEffect, Exhausted}
 use Rattle.bus.proofs.Dispatch.{read_declared, read_absent, write_declared, write_absent}
 
-module _ (b : Bus) (device o w id : ℕ) (region : PlacedEffect) (offset regionOffset : ℕ) where
+module _ (b : Bus) (device o w : ℕ) (hit : EffectHit) where
   abbrev function : FunctionState
   function = function_at b (index_on b device)
 
-  absent_read_lem : (x : Access) → ((absent_read x).answer ≡ read_answer.Effect id region offset regionOffset) → ⊥
+  absent_read_lem : (x : Access) → ((absent_read x).answer ≡ read_answer.Effect hit) → ⊥
   absent_read_lem access.Refused e = let z : ◌≡◌ {A = ℕ} 0 1 = cc in omega arith
   absent_read_lem (access.Good p u) e = let z : ◌≡◌ {A = ℕ} 0 1 = cc in omega arith
 
-  pub bus_read_answer : (bus_read_of b device o w).answer ≡ read_answer.Effect id region offset regionOffset → Answer function.placed o w false id region offset regionOffset
+  pub bus_read_answer : (bus_read_of b device o w).answer ≡ read_answer.Effect hit → Answer function.placed o w false hit
   bus_read_answer e =
-      ⊎_elim (λ (h : index_on b device < count_on b). read_answer_lem function o w id region offset regionOffset (rw (read_declared b device o w h) at e))
+      ⊎_elim (λ (h : index_on b device < count_on b). read_answer_lem function o w hit (rw (read_declared b device o w h) at e))
       (λ (h : count_on b ≤ index_on b device). absurd (absent_read_lem (access_of config_space_size o w) (rw (read_absent b device o w h) at e)))
       (below_or_not (index_on b device) (count_on b))
 
@@ -47,7 +47,7 @@ module _ (b : Bus) (k o w : ℕ) where
   Told (Probing slot) = Unit {0}
   Told (Moved slot address) = Unit {0}
   Told (Kept slot address) = Unit {0}
-  Told (Effect id region offset regionOffset) = Answer (function_at b k).placed o w true id region offset regionOffset
+  Told (Effect hit) = Answer (function_at b k).placed o w true hit
   Told BadAccess = Unit {0}
   Told BadEffect = Unit {0}
   Told (Exhausted device) = Unit {0}
@@ -62,7 +62,7 @@ module _ (b : Bus) (k o w : ℕ) where
     stepped f body (write_answer.Probing i) e = tt
     stepped f body (write_answer.Candidate i a) e =
         ⊎_elim (λ (t : accepts b k i a ≡ true). rw t tt) (λ (t : accepts b k i a ≡ false). rw t tt) (true_or_false (accepts b k i a))
-    stepped f body (write_answer.Effect id region offset regionOffset) e = write_answer_lem (function_at b k) o w id region offset regionOffset v e
+    stepped f body (write_answer.Effect hit) e = write_answer_lem (function_at b k) o w hit v e
     stepped f body write_answer.BadAccess e = tt
     stepped f body write_answer.BadEffect e = tt
     stepped f body write_answer.Exhausted e = tt
@@ -77,5 +77,5 @@ write_told b device o w v =
     (λ (h : count_on b ≤ index_on b device). rw (write_absent b device o w v h) (absent_write_lem b (index_on b device) o w (access_of config_space_size o w)))
     (below_or_not (index_on b device) (count_on b))
 
-pub bus_write_answer : (b : Bus) (device o w v id : ℕ) (region : PlacedEffect) (offset regionOffset : ℕ) → (bus_write_of b device o w v).reply.answer ≡ Effect id region offset regionOffset → Answer (function_at b (index_on b device)).placed o w true id region offset regionOffset
-bus_write_answer b device o w v id region offset regionOffset e = subst (Told b (index_on b device) o w) e (write_told b device o w v)
+pub bus_write_answer : (b : Bus) (device o w v : ℕ) (hit : EffectHit) → (bus_write_of b device o w v).reply.answer ≡ Effect hit → Answer (function_at b (index_on b device)).placed o w true hit
+bus_write_answer b device o w v hit e = subst (Told b (index_on b device) o w) e (write_told b device o w v)

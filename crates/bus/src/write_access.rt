@@ -10,7 +10,7 @@ use crate::state::{Bus, count_on, index_of};
 use address::config_layout::CONFIG_SPACE_SIZE;
 use address::{Access, check};
 use bar::Relocation;
-use capability::{PlacedEffect, Snapshot};
+use capability::{EffectHit, Snapshot};
 use config::{FunctionState, WriteAnswer, finish_at, no_body};
 
 // What a write did: stored, dropped, started a probe, moved a BAR or kept it where it was (the committed address is given), touched an effect; or refusal 18, 19, or 20 with the device.
@@ -19,20 +19,9 @@ pub enum BusWriteAnswer {
     Stored,
     Dropped,
     Probing(usize),
-    Moved {
-        slot: usize,
-        address: u64,
-    },
-    Kept {
-        slot: usize,
-        address: u64,
-    },
-    Effect {
-        capability_id: u8,
-        region: PlacedEffect,
-        offset: u16,
-        region_offset: u16,
-    },
+    Moved { slot: usize, address: u64 },
+    Kept { slot: usize, address: u64 },
+    Effect(EffectHit),
     BadAccess,
     BadEffect,
     Exhausted(u8),
@@ -68,12 +57,7 @@ impl BusWriteAnswer {
                 slot: _,
                 address: _,
             } => refusal::ACCEPTED,
-            BusWriteAnswer::Effect {
-                capability_id: _,
-                region: _,
-                offset: _,
-                region_offset: _,
-            } => refusal::ACCEPTED,
+            BusWriteAnswer::Effect(_) => refusal::ACCEPTED,
             BusWriteAnswer::BadAccess => refusal::BAD_ACCESS,
             BusWriteAnswer::BadEffect => refusal::BAD_TOUCH,
             BusWriteAnswer::Exhausted(_) => refusal::REVISION_EXHAUSTED,
@@ -145,21 +129,7 @@ fn write_on(bus: Bus, k: usize, offset: usize, width: usize, value: u64) -> Writ
             comes_to(BusWriteAnswer::Probing(i), body, state)
         }
         WriteAnswer::Candidate { slot, address } => settle(bus, k, slot, address),
-        WriteAnswer::Effect {
-            capability_id,
-            region,
-            offset,
-            region_offset,
-        } => comes_to(
-            BusWriteAnswer::Effect {
-                capability_id,
-                region,
-                offset,
-                region_offset,
-            },
-            body,
-            function,
-        ),
+        WriteAnswer::Effect(hit) => comes_to(BusWriteAnswer::Effect(hit), body, function),
         WriteAnswer::BadAccess => comes_to(BusWriteAnswer::BadAccess, body, function),
         WriteAnswer::BadEffect => comes_to(BusWriteAnswer::BadEffect, body, function),
         WriteAnswer::Exhausted => {

@@ -4,17 +4,17 @@ use mathlib.Core.Bool.{Bool, true, false}
 use mathlib.Core.Logic.{⊎_elim}
 use mathlib.Core.Path.{◌≡◌, sym, ◌∙◌}
 use native.Mathlib.Omega.{arith}
+use Rattle.std.proofs.Common.{Some, Err}
 use Rattle.word.proofs.Tests.{and_left, and_right, both, never}
 use Rattle.word.proofs.Searches.{first_or_none}
 use Rattle.refusal.specs.Number.{accepted, bad_touch}
+use Rattle.refusal.specs.declared.refusal.Refusal.TheVariants as refusal
+use Rattle.refusal.specs.Refusal.{answer_number}
 use Rattle.capability.specs.Size.{header_size}
 use Rattle.capability.specs.Owner.{effect_count, capability_at, effect_at, start_of, region_start, in_region, owner_of, touches, holds}
 use Rattle.capability.specs.Touch.{allows, effect_answer, touch_of, answers, decision}
 use Rattle.capability.specs.LaidApart.{LaidApart}
-use Rattle.capability.specs.Number.{touch_number}
 use Rattle.capability.specs.declared.placed.Placed.{Placed}
-use Rattle.capability.specs.declared.owner.Owner.TheVariants as owner
-use Rattle.capability.specs.declared.effect_access.Touch.TheVariants as touch
 use Rattle.capability.proofs.Regions.{touched_at, at_touched, held_at, holds_inside}
 use Rattle.capability.proofs.Owners.{owner_is}
 use Rattle.capability.proofs.Touches.{touch_untouched, touch_decision, decision_inside}
@@ -24,7 +24,7 @@ module _ (p : Placed) (g : LaidApart p) where
   many = effect_count p
 
   -- the owner of a byte is the effect that covers it
-  pub owner_covers : (i j : ℕ) → i < many → in_region p j i ≡ true → owner_of p j ≡ owner.Effect i
+  pub owner_covers : (i j : ℕ) → i < many → in_region p j i ≡ true → owner_of p j ≡ Some i
   owner_covers i j h e =
       owner_is p j i (record { below = h; before = λ k l. never (in_region p j k) (λ t. let q : k ≡ i = g.apart k i j (omega arith) h t e in omega arith); here = e })
 
@@ -51,7 +51,7 @@ module _ (p : Placed) (g : LaidApart p) where
         decision_inside p o w write i held (and_right (holds p o w i) (allows write (effect_at p i).access) e)
 
     -- refused where it touches one that may not answer it
-    pub refused : (write : Bool) (i : ℕ) → i < many → touches p o w i ≡ true → answers p o w write i ≡ false → touch_of p o w write ≡ touch.Refused
+    pub refused : (write : Bool) (i : ℕ) → i < many → touches p o w i ≡ true → answers p o w write i ≡ false → touch_of p o w write ≡ Err refusal.BadTouch
     unfolding decision
     refused write i h t e =
         ⊎_elim
@@ -63,7 +63,7 @@ module _ (p : Placed) (g : LaidApart p) where
         (first_or_none (touches p o w) many)
 
 -- refusal 19 only where an effect is touched that may not answer
-pub refused_only : (p : Placed) (o w : ℕ) (write : Bool) → touch_number (touch_of p o w write) ≡ bad_touch → (i : ℕ) × (i < effect_count p) × (touches p o w i ≡ true) × (answers p o w write i ≡ false)
+pub refused_only : (p : Placed) (o w : ℕ) (write : Bool) → answer_number (touch_of p o w write) ≡ bad_touch → (i : ℕ) × (i < effect_count p) × (touches p o w i ≡ true) × (answers p o w write i ≡ false)
 unfolding decision
 refused_only p o w write e =
     ⊎_elim
@@ -72,8 +72,8 @@ refused_only p o w write e =
       r.1.below,
       r.1.here,
       never (answers p o w write r.0) (λ a.
-          let f : touch_number (touch_of p o w write) ≡ accepted = rw (touch_decision p o w r.0 r.1 write, a) in
+          let f : answer_number (touch_of p o w write) ≡ accepted = rw (touch_decision p o w r.0 r.1 write, a) in
           let z : ◌≡◌ {A = ℕ} accepted bad_touch = sym f ∙ e in omega arith),
     ))
-    (λ n. let f : touch_number (touch_of p o w write) ≡ accepted = rw (touch_untouched p o w write n) in let z : ◌≡◌ {A = ℕ} accepted bad_touch = sym f ∙ e in absurd (omega arith))
+    (λ n. let f : answer_number (touch_of p o w write) ≡ accepted = rw (touch_untouched p o w write n) in let z : ◌≡◌ {A = ℕ} accepted bad_touch = sym f ∙ e in absurd (omega arith))
     (first_or_none (touches p o w) (effect_count p))

@@ -1,6 +1,6 @@
 -- Document 01's refusal number of each answer, `accepted` where nothing is refused.
 use Rattle.std.specs.Prelude.{ℕ}
-use Rattle.refusal.specs.Number.{accepted, bad_form, out_of_order, above_limit, long_body, bad_effect, repeated_effect, past_space, bad_touch}
+use Rattle.refusal.specs.Number.{accepted, bad_form, out_of_order, above_limit, long_body, bad_effect, repeated_effect, past_space}
 use Rattle.capability.specs.declared.effect.AccessAnswer.{AccessAnswer}
 use Rattle.capability.specs.declared.effect.AccessAnswer.TheVariants as access_answer
 use Rattle.capability.specs.declared.declared.CapabilityAnswer.{CapabilityAnswer}
@@ -11,8 +11,6 @@ use Rattle.capability.specs.declared.adding.EffectAdded.{EffectAdded}
 use Rattle.capability.specs.declared.adding.EffectAdded.TheVariants as effect_added
 use Rattle.capability.specs.declared.layout.LayoutAnswer.{LayoutAnswer}
 use Rattle.capability.specs.declared.layout.LayoutAnswer.TheVariants as layout_answer
-use Rattle.capability.specs.declared.effect_access.Touch.{Touch}
-use Rattle.capability.specs.declared.effect_access.Touch.TheVariants as touch
 
 -- the access byte of an effect
 abbrev pub access_answer_number : AccessAnswer → ℕ
@@ -41,9 +39,3 @@ abbrev pub layout_answer_number : LayoutAnswer → ℕ
 layout_answer_number layout_answer.Placed = accepted
 layout_answer_number (layout_answer.Repeated k) = repeated_effect
 layout_answer_number (layout_answer.PastEnd k) = past_space
-
--- an access
-abbrev pub touch_number : Touch → ℕ
-touch_number touch.Untouched = accepted
-touch_number (touch.Effect id region offset regionOffset) = accepted
-touch_number touch.Refused = bad_touch

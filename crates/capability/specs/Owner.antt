@@ -1,5 +1,5 @@
 -- Where capabilities and the regions of their effects lie in config space, and which effect owns a byte (document 01, "Power-on image" and "Access and reset").
-use Rattle.std.specs.Prelude.{ℕ, ◌+◌, Bool, List, length, get_or, take}
+use Rattle.std.specs.Prelude.{Option, Some, None, ℕ, ◌+◌, Bool, List, length, get_or, take}
 use Rattle.word.specs.Search.{all_below, first_of}
 use Rattle.word.specs.Interval.{covers, overlap}
 use Rattle.capability.specs.Blank.{no_placed_capability, no_placed_effect}
@@ -7,8 +7,6 @@ use Rattle.capability.specs.declared.placed.Placed.{Placed}
 use Rattle.capability.specs.declared.placed.PlacedCapability.{PlacedCapability}
 use Rattle.capability.specs.declared.placed.PlacedEffect.{PlacedEffect}
 use Rattle.capability.specs.declared.owner.Span.{Span}
-use Rattle.capability.specs.declared.owner.Owner.{Owner}
-use Rattle.capability.specs.declared.owner.Owner.TheVariants as owner
 
 -- the capabilities and the effects of a function: as many as are counted and kept
 abbrev pub capabilities_of : Placed → List PlacedCapability
@@ -54,8 +52,8 @@ unfoldable pub in_region : Placed → ℕ → ℕ → Bool
 in_region p j i = covers (region_from p i) (effect_at p i).length j
 
 -- the effect that owns byte j: the first whose region covers it (regions never overlap in what the layout gives, so it is the only one: `owner_covers`)
-unfoldable pub owner_of : Placed → ℕ → Owner
-owner_of p j = first_of owner.Effect owner.Nobody (in_region p j) (effect_count p)
+unfoldable pub owner_of : Placed → ℕ → Option ℕ
+owner_of p j = first_of Some None (in_region p j) (effect_count p)
 
 -- the walk over the effects: whether some byte, or every byte, of the access lies in the region of the effect at index i, and the first that is touched
 unfoldable pub touches : Placed → ℕ → ℕ → ℕ → Bool
@@ -64,5 +62,5 @@ touches p o w i = overlap o w (region_from p i) (effect_at p i).length
 unfoldable pub holds : Placed → ℕ → ℕ → ℕ → Bool
 holds p o w i = all_below (λ k. in_region p (o + k) i) w
 
-unfoldable pub first_touched : Placed → ℕ → ℕ → Owner
-first_touched p o w = first_of owner.Effect owner.Nobody (touches p o w) (effect_count p)
+unfoldable pub first_touched : Placed → ℕ → ℕ → Option ℕ
+first_touched p o w = first_of Some None (touches p o w) (effect_count p)

@@ -1,11 +1,10 @@
 -- The walk of capability.rs (effect_for_access) under that of config.rs (config_effect), with all of its tests, as a definition: `walk_agrees` shows that it gives what the owners give, where the record is a layout's and the access has a byte. So "multiple effects" and "crosses a boundary" change no answer.
-use Rattle.std.specs.Prelude.{ℕ, zero, suc, ◌+◌, Bool, ◌&&◌, ◌||◌, cond, ltb, leb, eqb}
+use Rattle.std.specs.Prelude.{None, Ok, Err, ℕ, zero, suc, ◌+◌, Bool, ◌&&◌, ◌||◌, cond, ltb, leb, eqb}
+use Rattle.refusal.specs.declared.refusal.Refusal.TheVariants as refusal
 use Rattle.capability.specs.Owner.{capability_count, effect_count, effect_at, start_of, region_from, region_to}
-use Rattle.capability.specs.Touch.{allows, effect_answer}
+use Rattle.capability.specs.Touch.{Touch, allows, effect_answer}
 use Rattle.capability.specs.Laid.{finish_of}
 use Rattle.capability.specs.declared.placed.Placed.{Placed}
-use Rattle.capability.specs.declared.effect_access.Touch.{Touch}
-use Rattle.capability.specs.declared.effect_access.Touch.TheVariants as touch
 
 -- what a walk has: no effect yet, one, or an error
 pub data Found : Type 0 where
@@ -27,9 +26,9 @@ or_next bad g = bad
 
 -- the answer of `config_effect`, and R-9's offset, which the Rust has not
 abbrev pub told : Placed → ℕ → Found → Touch
-told p o none = touch.Untouched
+told p o none = Ok None
 told p o (one i) = effect_answer p o i
-told p o bad = touch.Refused
+told p o bad = Err refusal.BadTouch
 
 -- `config_offset < end && start < access_end`, of an effect of the capability at index c
 abbrev pub reached : Placed → ℕ → ℕ → ℕ → ℕ → Bool

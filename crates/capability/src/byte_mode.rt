@@ -2,24 +2,16 @@
 ghost use Rattle.std.specs.Prelude.{◌≡◌};
 ghost use Rattle.capability.specs.Mode.{in_capability, holder_of, body_mode, byte_mode_of};
 
-use crate::owner::{Owner, capability_count, owner_of, span_at};
+use crate::owner::{capability_count, owner_of, span_at};
 use crate::placed::{CAPABILITY_HEADER_SIZE, Placed};
 use address::ConfigOffset;
 
-// The capability that holds a byte, by its index.
-#[derive(Clone, Copy)]
-pub enum Holder {
-    Capability(usize),
-    Nobody,
-}
-
-// How a config byte is kept.
-#[derive(Clone, Copy)]
+// How a config byte of a capability is kept.
+#[derive(Clone, Copy, Debug, PartialEq, Eq)]
 pub enum ByteMode {
     Constant,
     StoredMasked,
     EffectOnly,
-    Outside,
 }
 
 // Whether a byte lies in the capability at an index.
@@ -34,8 +26,8 @@ fn capability_covers(placed: Placed, offset: usize, i: usize) -> bool
     )
 }
 
-// The capability that holds a byte.
-pub fn capability_at(placed: Placed, offset: ConfigOffset) -> Holder
+// The capability that holds a byte, by its index.
+pub fn capability_at(placed: Placed, offset: ConfigOffset) -> Option<usize>
     ensures { result ≡ holder_of placed offset.0 }
 {
     let at = offset.value() as usize;
@@ -44,20 +36,20 @@ pub fn capability_at(placed: Placed, offset: ConfigOffset) -> Holder
     while i < n {
         let held = capability_covers(placed, at, i);
         if held {
-            return Holder::Capability(i);
+            return Some(i);
         }
         i += 1;
     }
-    Holder::Nobody
+    None
 }
 
 // The mode of a body byte.
-fn body_mode(owner: Owner, mask: u8) -> ByteMode
+fn body_mode(owner: Option<usize>, mask: u8) -> ByteMode
     ensures { result ≡ body_mode owner mask }
 {
     match owner {
-        Owner::Effect(_) => ByteMode::EffectOnly,
-        Owner::Nobody => {
+        Some(_) => ByteMode::EffectOnly,
+        None => {
             if mask == 0 {
                 ByteMode::Constant
             } else {
@@ -67,20 +59,16 @@ fn body_mode(owner: Owner, mask: u8) -> ByteMode
     }
 }
 
-// The mode of a byte, by the write masks of the whole config space.
-pub fn mode_of(placed: Placed, mask: &[u8], offset: ConfigOffset) -> ByteMode
+// The mode of a byte, by the write masks of the whole config space; none outside every capability.
+pub fn mode_of(placed: Placed, mask: &[u8], offset: ConfigOffset) -> Option<ByteMode>
     ensures { result ≡ byte_mode_of placed mask.now offset.0 }
 {
     let at = offset.value() as usize;
-    match capability_at(placed, offset) {
-        Holder::Capability(i) => {
-            let s = span_at(placed, i);
-            let header = word::covered(s.start as usize, CAPABILITY_HEADER_SIZE, at);
-            if header {
-                return ByteMode::Constant;
-            }
-            body_mode(owner_of(placed, offset), word::byte_at(mask, at))
-        }
-        Holder::Nobody => ByteMode::Outside,
+    let i = capability_at(placed, offset)?;
+    let s = span_at(placed, i);
+    let header = word::covered(s.start as usize, CAPABILITY_HEADER_SIZE, at);
+    if header {
+        return Some(ByteMode::Constant);
     }
+    Some(body_mode(owner_of(placed, offset), word::byte_at(mask, at)))
 }

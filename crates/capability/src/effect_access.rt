@@ -1,42 +1,21 @@
 // Access to an effect: refusal 19.
 ghost use Rattle.std.specs.Prelude.{◌≡◌};
 ghost use Rattle.capability.specs.Touch.{allows, decision, touch_of};
-ghost use Rattle.capability.specs.Number.{touch_number};
 
 use crate::effect::{ACCESS_BOTH, ACCESS_READ, ACCESS_WRITE};
-use crate::owner::{Owner, effect_at, effect_holds, first_touched, region_start, span_at};
+use crate::owner::{effect_at, effect_holds, first_touched, region_start, span_at};
 use crate::placed::{Placed, PlacedEffect};
 use address::ConfigOffset;
+use refusal::Refusal;
 
-// What an access does to the effects: the capability's id, the region, and the access's offset from the capability's start and from the region's own.
-#[derive(Clone, Copy)]
-pub enum Touch {
-    Untouched,
-    Effect {
-        capability_id: u8,
-        region: PlacedEffect,
-        offset: u16,
-        region_offset: u16,
-    },
-    Refused,
-}
-
-impl Touch {
-    // Document 01's number for the answer.
-    pub fn number(self) -> u8
-        ensures { result ≡ touch_number self }
-    {
-        match self {
-            Touch::Untouched => refusal::ACCEPTED,
-            Touch::Effect {
-                capability_id: _,
-                region: _,
-                offset: _,
-                region_offset: _,
-            } => refusal::ACCEPTED,
-            Touch::Refused => refusal::BAD_TOUCH,
-        }
-    }
+// An access inside an effect: the capability's id, the region, and the access's offset from the capability's start and from the region's own.
+#[repr(C)]
+#[derive(Clone, Copy, Debug, PartialEq, Eq)]
+pub struct EffectHit {
+    pub capability_id: u8,
+    pub region: PlacedEffect,
+    pub offset: u16,
+    pub region_offset: u16,
 }
 
 // Whether an effect allows a direction.
@@ -54,7 +33,13 @@ fn access_allows(access: u8, write: bool) -> bool
 }
 
 // The answer at the effect that the access touches first.
-fn decided(placed: Placed, offset: u16, width: usize, write: bool, i: usize) -> Touch
+fn decided(
+    placed: Placed,
+    offset: u16,
+    width: usize,
+    write: bool,
+    i: usize,
+) -> Result<Option<EffectHit>, Refusal>
     ensures { result ≡ decision placed offset width write i }
 {
     let inside = effect_holds(placed, offset as usize, width, i);
@@ -63,24 +48,29 @@ fn decided(placed: Placed, offset: u16, width: usize, write: bool, i: usize) -> 
     if inside {
         if allowed {
             let capability = span_at(placed, region.capability as usize);
-            return Touch::Effect {
+            return Ok(Some(EffectHit {
                 capability_id: capability.id,
                 region,
                 offset: word::past(offset as usize, capability.start as usize) as u16,
                 region_offset: word::past(offset as usize, region_start(placed, region)) as u16,
-            };
+            }));
         }
     }
-    Touch::Refused
+    Err(Refusal::BadTouch)
 }
 
 // An access of `width` bytes, checked before: untouched, answered by the effect that owns all of it, or refused.
-pub fn effect_for_access(placed: Placed, offset: ConfigOffset, width: usize, write: bool) -> Touch
+pub fn effect_for_access(
+    placed: Placed,
+    offset: ConfigOffset,
+    width: usize,
+    write: bool,
+) -> Result<Option<EffectHit>, Refusal>
     ensures { result ≡ touch_of placed offset.0 width write }
 {
     let at = offset.value();
     match first_touched(placed, at as usize, width) {
-        Owner::Effect(i) => decided(placed, at, width, write, i),
-        Owner::Nobody => Touch::Untouched,
+        Some(i) => decided(placed, at, width, write, i),
+        None => Ok(None),
     }
 }

@@ -8,18 +8,11 @@ use address::limits::{CAPABILITY_LIMIT, EFFECT_LIMIT};
 
 // A capability as plain numbers: its id, its start in config space, the length of its body.
 #[repr(C)]
-#[derive(Clone, Copy)]
+#[derive(Clone, Copy, Debug, PartialEq, Eq)]
 pub struct Span {
     pub id: u8,
     pub start: u16,
     pub length: u8,
-}
-
-// The effect that owns a byte, by its index.
-#[derive(Clone, Copy)]
-pub enum Owner {
-    Effect(usize),
-    Nobody,
 }
 
 // How many capabilities there are.
@@ -110,8 +103,8 @@ pub(crate) fn effect_holds(placed: Placed, offset: usize, width: usize, i: usize
     width <= length - (offset - start)
 }
 
-// The first effect of which an access touches a byte.
-pub(crate) fn first_touched(placed: Placed, offset: usize, width: usize) -> Owner
+// The first effect of which an access touches a byte, by its index.
+pub(crate) fn first_touched(placed: Placed, offset: usize, width: usize) -> Option<usize>
     ensures { result ≡ first_touched placed offset width }
 {
     let n = effect_count(placed);
@@ -119,15 +112,15 @@ pub(crate) fn first_touched(placed: Placed, offset: usize, width: usize) -> Owne
     while i < n {
         let touched = effect_touched(placed, offset, width, i);
         if touched {
-            return Owner::Effect(i);
+            return Some(i);
         }
         i += 1;
     }
-    Owner::Nobody
+    None
 }
 
-// The effect that owns a byte.
-pub fn owner_of(placed: Placed, offset: ConfigOffset) -> Owner
+// The effect that owns a byte, by its index.
+pub fn owner_of(placed: Placed, offset: ConfigOffset) -> Option<usize>
     ensures { result ≡ owner_of placed offset.0 }
 {
     first_touched(placed, offset.value() as usize, 1)

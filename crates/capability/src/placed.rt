@@ -21,7 +21,7 @@ pub struct PlacedCapability {
 
 // An effect of the capability at index `capability`: its region starts `offset` bytes from that one's start; `access` is document 01's number, 1 read, 2 write, 3 both.
 #[repr(C)]
-#[derive(Clone, Copy)]
+#[derive(Clone, Copy, Debug, PartialEq, Eq)]
 pub struct PlacedEffect {
     pub id: u16,
     pub capability: u8,

@@ -1,5 +1,5 @@
 -- The cases of document 01 marked P, as one statement over one list. Each question is put to the definition that the promises cite.
-use Rattle.std.specs.Prelude.{ℕ, true, false, List, [], map, ◌∷◌, length, take}
+use Rattle.std.specs.Prelude.{ℕ, true, false, List, [], map, ◌∷◌, length, take, Some, None, Ok, Err}
 use Rattle.address.specs.Layout.{config_space_size}
 use Rattle.address.specs.Check.{access_of, access_number}
 use Rattle.bar.specs.Register.{size_mask, class_of}
@@ -10,13 +10,12 @@ use Rattle.bar.specs.declared.bar_state.BarState.{BarState}
 use Rattle.bar.specs.declared.range.Aperture.{Aperture}
 use Rattle.capability.specs.Declaration.{capability_of, none_declared}
 use Rattle.capability.specs.Layout.{layout_of}
-use Rattle.capability.specs.Number.{capability_answer_number, layout_answer_number, touch_number}
-use Rattle.capability.specs.Touch.{touch_of}
+use Rattle.refusal.specs.Refusal.{number_of}
+use Rattle.capability.specs.Number.{capability_answer_number, layout_answer_number}
+use Rattle.capability.specs.Touch.{touch_of, Touch}
 use Rattle.capability.specs.declared.layout.LayoutAnswer.{LayoutAnswer}
 use Rattle.capability.specs.declared.layout.LayoutAnswer.TheVariants as layout_answer
 use Rattle.capability.specs.declared.placed.PlacedCapability.{PlacedCapability}
-use Rattle.capability.specs.declared.effect_access.Touch.{Touch}
-use Rattle.capability.specs.declared.effect_access.Touch.TheVariants as touch
 use Rattle.config.specs.Read.{read_of}
 use Rattle.config.specs.Write.{write_of}
 use Rattle.config.specs.declared.read_step.ReadAnswer.{ReadAnswer}
@@ -56,9 +55,9 @@ layout_reply (layout_answer.Repeated k) = refusal_at (layout_answer_number (layo
 layout_reply (layout_answer.PastEnd k) = refusal_at (layout_answer_number (layout_answer.PastEnd k)) k
 
 abbrev pub touch_reply : Touch → Reply
-touch_reply touch.Untouched = touches touch.Untouched
-touch_reply (touch.Effect id region offset regionOffset) = touches (touch.Effect id region offset regionOffset)
-touch_reply touch.Refused = refusal_is (touch_number touch.Refused)
+touch_reply (Ok None) = touches (Ok None)
+touch_reply (Ok (Some hit)) = touches (Ok (Some hit))
+touch_reply (Err r) = refusal_is (number_of r)
 
 abbrev pub answer : Question → Reply
 answer (mask size) = number_is (size_mask size)
@@ -106,7 +105,7 @@ cases =
     (bodies (191 ∷ []) gives refusal_at 13 0) ∷
     (body 254 gives refusal_is 10) ∷
     -- P8 Effect offset 3, length 2 at 0x40: byte 0x43 matches; word 0x42 and dword 0x44 give 19.
-    (effect_at 0x43 1 gives touches (touch.Effect 9 p8_effect 3 0)) ∷
+    (effect_at 0x43 1 gives touches (Ok (Some (record { capability_id = 9; region = p8_effect; offset = 3; region_offset = 0 })))) ∷
     (effect_at 0x42 2 gives refusal_is 19) ∷
     (effect_at 0x44 4 gives refusal_is 19) ∷
     -- P9 Aperture 0x80000010 to 0x80001010, automatic 0x1000: 17.

@@ -3,16 +3,15 @@ use Prim.Native.Nat.{ℕ}
 use mathlib.Core.Bool.{true, false}
 use mathlib.Core.Logic.{⊎_elim}
 use mathlib.Core.Path.{◌≡◌, refl, subst}
+use Rattle.std.proofs.Common.{Some, None, Ok, Err}
 use Rattle.word.proofs.Tests.{true_or_false}
 use Rattle.address.specs.Check.{access_of}
 use Rattle.address.specs.declared.access.Access.{Access}
 use Rattle.address.specs.declared.access.Access.TheVariants as access
 use Rattle.address.proofs.Accesses.{access_is}
-use Rattle.capability.specs.Touch.{touch_of}
+use Rattle.capability.specs.Touch.{touch_of, Touch}
 use Rattle.capability.specs.Answer.{Answer}
-use Rattle.capability.specs.declared.placed.PlacedEffect.{PlacedEffect}
-use Rattle.capability.specs.declared.effect_access.Touch.{Touch}
-use Rattle.capability.specs.declared.effect_access.Touch.TheVariants as touch
+use Rattle.capability.specs.declared.effect_access.EffectHit.{EffectHit}
 use Rattle.capability.proofs.Answers.{touch_answer}
 use Rattle.config.specs.Space.{space_of}
 use Rattle.config.specs.State.{in_bar}
@@ -29,14 +28,14 @@ use Rattle.config.proofs.WriteCases.{write_by_lem}
 module _ (f : FunctionState) (o w : ℕ) where
   abbrev ReadTold : ReadAnswer → Type 0
   ReadTold (read_answer.Value v) = Unit {0}
-  ReadTold (read_answer.Effect id region offset regionOffset) = Answer f.placed o w false id region offset regionOffset
+  ReadTold (read_answer.Effect hit) = Answer f.placed o w false hit
   ReadTold read_answer.BadAccess = Unit {0}
   ReadTold read_answer.BadEffect = Unit {0}
 
   touched : (t : Touch) → touch_of f.placed o w false ≡ t → ReadTold (read_touched f o w t).answer
-  touched touch.Untouched e = tt
-  touched (touch.Effect id region offset regionOffset) e = touch_answer f.placed o w false id region offset regionOffset e
-  touched touch.Refused e = tt
+  touched (Ok None) e = tt
+  touched (Ok (Some hit)) e = touch_answer f.placed o w false hit e
+  touched (Err r) e = tt
 
   good : ReadTold (read_good f o w).answer
   good =
@@ -56,7 +55,7 @@ module _ (f : FunctionState) (o w : ℕ) where
   WriteTold write_answer.Stored = Unit {0}
   WriteTold (write_answer.Probing slot) = Unit {0}
   WriteTold (write_answer.Candidate slot address) = Unit {0}
-  WriteTold (write_answer.Effect id region offset regionOffset) = Answer f.placed o w true id region offset regionOffset
+  WriteTold (write_answer.Effect hit) = Answer f.placed o w true hit
   WriteTold write_answer.BadAccess = Unit {0}
   WriteTold write_answer.BadEffect = Unit {0}
   WriteTold write_answer.Exhausted = Unit {0}
@@ -68,15 +67,15 @@ module _ (f : FunctionState) (o w : ℕ) where
         bad_access = λ x. tt;
         probing = λ x y. tt;
         candidate = λ x y a g. tt;
-        effect = λ x y id region offset regionOffset e. touch_answer f.placed o w true id region offset regionOffset e;
+        effect = λ x y hit e. touch_answer f.placed o w true hit e;
         bad_effect = λ x y g. tt;
         exhausts = λ x y g. tt;
         stores = λ x y u g. tt;
       })
 
-  module _ (id : ℕ) (region : PlacedEffect) (offset regionOffset : ℕ) where
-    pub read_answer_lem : (read_of f o w).answer ≡ read_answer.Effect id region offset regionOffset → Answer f.placed o w false id region offset regionOffset
+  module _ (hit : EffectHit) where
+    pub read_answer_lem : (read_of f o w).answer ≡ read_answer.Effect hit → Answer f.placed o w false hit
     read_answer_lem e = subst ReadTold e read_told
 
-    pub write_answer_lem : (v : ℕ) → (write_of f o w v).reply.answer ≡ write_answer.Effect id region offset regionOffset → Answer f.placed o w true id region offset regionOffset
+    pub write_answer_lem : (v : ℕ) → (write_of f o w v).reply.answer ≡ write_answer.Effect hit → Answer f.placed o w true hit
     write_answer_lem v e = subst WriteTold e (write_told v)

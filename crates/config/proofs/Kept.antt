@@ -77,7 +77,7 @@ reset_same f = rw (reset_state f) (record { space = refl; power_on = refl; mask 
 pub refused_changes_nothing : (f : FunctionState) (o w v : ℕ) → (write_number (write_of f o w v).reply.answer ≡ accepted) ⊎ ((write_of f o w v).state ≡ f)
 refused_changes_nothing f o w v =
     write_by_lem (λ d. (write_number d.reply.answer ≡ accepted) ⊎ (d.state ≡ f)) f o w v
-    (record { bad_access = λ e. inr refl; probing = λ a i. inl refl; candidate = λ a i x e. inl refl; effect = λ a i id region offset regionOffset e. inl refl; bad_effect = λ a i e. inr refl; exhausts = λ a i e. inr refl; stores = λ a i u e. inl refl })
+    (record { bad_access = λ e. inr refl; probing = λ a i. inl refl; candidate = λ a i x e. inl refl; effect = λ a i hit e. inl refl; bad_effect = λ a i e. inr refl; exhausts = λ a i e. inr refl; stores = λ a i u e. inl refl })
 
 -- of the BARs only the one written to can change
 pub other_bars : (f : FunctionState) (o w v j : ℕ) → (j ≡ slot_at o → ⊥) → bar_at (write_of f o w v).state.bars j ≡ bar_at f.bars j

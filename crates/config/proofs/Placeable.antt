@@ -6,27 +6,26 @@ use mathlib.Core.Path.{◌≡◌, refl}
 use native.Mathlib.Omega.{arith}
 use borrow.Author.Tests.{leb-true, ltb-true, ne_eqb, lt-leb, not-false}
 use lib.Dec.{leb, ltb}
+use Rattle.std.proofs.Common.{Option, Some, None, is_none}
 use Rattle.address.specs.Layout.{cache_line_size, latency_timer, interrupt_line, standard_header_end}
 use Rattle.word.specs.Search.{any_below}
 use Rattle.word.proofs.Tests.{below_or_not, both, and_left, and_right, or_cases}
 use Rattle.word.proofs.Searches.{First, any_never, first_is, first_none, found_first, none_never}
 use Rattle.capability.specs.Mode.{holder_of}
-use Rattle.capability.specs.declared.byte_mode.Holder.{Holder}
-use Rattle.capability.specs.declared.byte_mode.Holder.TheVariants as holder
 use Rattle.capability.specs.declared.placed.Placed.{Placed}
-use Rattle.config.specs.ConfigByte.{byte_count, byte_offset, header_byte, nobody, byte_ok, byte_bad, byte_check_of}
+use Rattle.config.specs.ConfigByte.{byte_count, byte_offset, header_byte, byte_ok, byte_bad, byte_check_of}
 use Rattle.config.specs.declared.config_byte.ByteCheck.TheVariants as byte_check
 use Rattle.config.specs.declared.function.Contents.{Contents}
 
-nobody_is : (h : Holder) → nobody h ≡ true → h ≡ holder.Nobody
-nobody_is holder.Nobody e = refl
-nobody_is (holder.Capability i) e = absurd (both e refl)
+nobody_is : (h : Option ℕ) → is_none h ≡ true → h ≡ None
+nobody_is None e = refl
+nobody_is (Some i) e = absurd (both e refl)
 
 -- a place from 0x40 on that no capability holds
 pub record Outside (space : ℕ) (p : Placed) (o : ℕ) : Type 0 where
   pub from : standard_header_end ≤ o
   pub to : o < space
-  pub free : holder_of p o ≡ holder.Nobody
+  pub free : holder_of p o ≡ None
 
 -- the three places lie in the header
 pub header_bytes : (o : ℕ) {A : Type 0} → header_byte o ≡ true → standard_header_end ≤ o → A
@@ -45,10 +44,10 @@ module _ (space : ℕ) (p : Placed) (o : ℕ) where
   unfolding byte_ok
   ok_cases e =
       ⊎_elim (λ (h : header_byte o ≡ true). inl h)
-      (λ (h : leb standard_header_end o && (ltb o space && nobody (holder_of p o)) ≡ true).
-      let r = and_right (leb standard_header_end o) (ltb o space && nobody (holder_of p o)) h in
-      inr (record { from = leb-true standard_header_end o (and_left (leb standard_header_end o) (ltb o space && nobody (holder_of p o)) h); to = ltb-true o space (and_left (ltb o space) (nobody (holder_of p o)) r); free = nobody_is (holder_of p o) (and_right (ltb o space) (nobody (holder_of p o)) r) }))
-      (or_cases (header_byte o) (leb standard_header_end o && (ltb o space && nobody (holder_of p o))) e)
+      (λ (h : leb standard_header_end o && (ltb o space && is_none (holder_of p o)) ≡ true).
+      let r = and_right (leb standard_header_end o) (ltb o space && is_none (holder_of p o)) h in
+      inr (record { from = leb-true standard_header_end o (and_left (leb standard_header_end o) (ltb o space && is_none (holder_of p o)) h); to = ltb-true o space (and_left (ltb o space) (is_none (holder_of p o)) r); free = nobody_is (holder_of p o) (and_right (ltb o space) (is_none (holder_of p o)) r) }))
+      (or_cases (header_byte o) (leb standard_header_end o && (ltb o space && is_none (holder_of p o))) e)
 
   pub ok_below : standard_header_end ≤ space → byte_ok space p o ≡ true → o < space
   ok_below s e =

@@ -6,13 +6,13 @@ use mathlib.Core.Path.{◌≡◌, refl, ◌∙◌}
 use native.Mathlib.Omega.{arith}
 use lib.ListN.{length, get_or}
 use lib.Seq.{ext_get_or}
+use Rattle.std.proofs.Common.{None, Ok}
 use Rattle.word.specs.Number.{read_at}
 use Rattle.word.specs.Store.{stored}
 use Rattle.word.proofs.Stores.{stored_length, stored_out, stored_unmasked}
 use Rattle.word.proofs.Tests.{below_or_not}
 use Rattle.address.proofs.Accesses.{Aligned, access_good}
 use Rattle.capability.specs.Touch.{touch_of}
-use Rattle.capability.specs.declared.effect_access.Touch.TheVariants as touch
 use Rattle.config.specs.Read.{read_reply, read_of}
 use Rattle.config.specs.Space.{space_of}
 use Rattle.config.specs.State.{in_bar, no_body}
@@ -25,11 +25,11 @@ use Rattle.config.proofs.Reading.{read_elsewhere}
 use Rattle.config.proofs.Writing.{write_elsewhere, store_kept}
 
 module _ (f : FunctionState) (o w : ℕ) (a : Aligned (space_of f) o w) (e : in_bar f.bars o ≡ false) where
-  pub plain_read : touch_of f.placed o w false ≡ touch.Untouched → read_of f o w ≡ read_reply (Value (read_at f.live o w)) no_body
+  pub plain_read : touch_of f.placed o w false ≡ Ok None → read_of f o w ≡ read_reply (Value (read_at f.live o w)) no_body
   unfolding read_of
   plain_read t = rw (access_good (space_of f) o w a) (read_elsewhere f o w e ∙ rw t)
 
-  module _ (v : ℕ) (t : touch_of f.placed o w true ≡ touch.Untouched) where
+  module _ (v : ℕ) (t : touch_of f.placed o w true ≡ Ok None) where
     pub plain_write : write_of f o w v ≡ store_of f o w v
     unfolding write_of
     plain_write = rw (access_good (space_of f) o w a) (write_elsewhere f o w v e ∙ rw t)

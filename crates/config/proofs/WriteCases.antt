@@ -4,6 +4,7 @@ use mathlib.Core.Bool.{true, false}
 use mathlib.Core.List.{List}
 use mathlib.Core.Logic.{⊎_elim}
 use mathlib.Core.Path.{◌≡◌, refl}
+use Rattle.std.proofs.Common.{Some, None, Ok, Err}
 use Rattle.word.specs.Store.{stored}
 use Rattle.word.proofs.Tests.{true_or_false}
 use Rattle.address.specs.Layout.{bar_register_size}
@@ -14,11 +15,11 @@ use Rattle.address.proofs.Accesses.{Aligned, access_is}
 use Rattle.bar.specs.State.{asks, probed}
 use Rattle.bar.specs.declared.bar_state.BarWrite.{BarWrite}
 use Rattle.bar.specs.declared.bar_state.BarWrite.TheVariants as bar_write
-use Rattle.capability.specs.Touch.{touch_of}
+use Rattle.refusal.specs.declared.refusal.Refusal.TheVariants as refusal
+use Rattle.capability.specs.Touch.{touch_of, Touch}
 use Rattle.capability.specs.Snapshot.{snapshot_of}
-use Rattle.capability.specs.declared.placed.PlacedEffect.{PlacedEffect}
-use Rattle.capability.specs.declared.effect_access.Touch.{Touch}
-use Rattle.capability.specs.declared.effect_access.Touch.TheVariants as touch
+use Rattle.capability.specs.declared.effect_access.EffectHit.{EffectHit}
+use Rattle.capability.proofs.Touches.{touch_refusal}
 use Rattle.config.specs.Space.{space_of}
 use Rattle.config.specs.State.{bar_at, slot_at, in_bar, no_body, with_live, with_bar}
 use Rattle.config.specs.Command.{revision_after, exhausted}
@@ -37,10 +38,10 @@ pub record Shown (P : WriteDone → Type 0) (f : FunctionState) (o w v : ℕ) : 
   pub bad_access : access_of (space_of f) o w ≡ access.Refused → P (write_done BadAccess no_body f)
   pub probing : Aligned (space_of f) o w → in_bar f.bars o ≡ true → P (write_done (Probing (slot_at o)) no_body (with_bar f (slot_at o) (probed (bar_at f.bars (slot_at o)))))
   pub candidate : Aligned (space_of f) o w → in_bar f.bars o ≡ true → (a : ℕ) → asks (bar_at f.bars (slot_at o)) (o % bar_register_size) w v ≡ bar_write.Relocate a → P (write_done (Candidate (slot_at o) a) no_body f)
-  pub effect : Aligned (space_of f) o w → in_bar f.bars o ≡ false → (id : ℕ) (region : PlacedEffect) (offset regionOffset : ℕ) → touch_of f.placed o w true ≡ touch.Effect id region offset regionOffset → P (write_done (Effect id region offset regionOffset) (snapshot_of f.placed f.live region.capability) f)
-  pub bad_effect : Aligned (space_of f) o w → in_bar f.bars o ≡ false → touch_of f.placed o w true ≡ touch.Refused → P (write_done BadEffect no_body f)
+  pub effect : Aligned (space_of f) o w → in_bar f.bars o ≡ false → (hit : EffectHit) → touch_of f.placed o w true ≡ Ok (Some hit) → P (write_done (Effect hit) (snapshot_of f.placed f.live hit.region.capability) f)
+  pub bad_effect : Aligned (space_of f) o w → in_bar f.bars o ≡ false → touch_of f.placed o w true ≡ Err refusal.BadTouch → P (write_done BadEffect no_body f)
   pub exhausts : Aligned (space_of f) o w → in_bar f.bars o ≡ false → exhausted f.live (stored_in f o w v) f.revision ≡ true → P (write_done Exhausted no_body f)
-  pub stores : Aligned (space_of f) o w → in_bar f.bars o ≡ false → touch_of f.placed o w true ≡ touch.Untouched → exhausted f.live (stored_in f o w v) f.revision ≡ false → P (write_done Stored no_body (with_live f (stored_in f o w v) (revision_after f.live (stored_in f o w v) f.revision)))
+  pub stores : Aligned (space_of f) o w → in_bar f.bars o ≡ false → touch_of f.placed o w true ≡ Ok None → exhausted f.live (stored_in f o w v) f.revision ≡ false → P (write_done Stored no_body (with_live f (stored_in f o w v) (revision_after f.live (stored_in f o w v) f.revision)))
 
 module _ (P : WriteDone → Type 0) (f : FunctionState) (o w v : ℕ) (s : Shown P f o w v) where
   asked : Aligned (space_of f) o w → in_bar f.bars o ≡ true → (b : BarWrite) → asks (bar_at f.bars (slot_at o)) (o % bar_register_size) w v ≡ b → P (bar_asked f (slot_at o) b)
@@ -51,16 +52,16 @@ module _ (P : WriteDone → Type 0) (f : FunctionState) (o w v : ℕ) (s : Shown
   unfolding bar_step
   at_register a i = asked a i (asks (bar_at f.bars (slot_at o)) (o % bar_register_size) w v) refl
 
-  at_store : Aligned (space_of f) o w → in_bar f.bars o ≡ false → touch_of f.placed o w true ≡ touch.Untouched → P (store_of f o w v)
+  at_store : Aligned (space_of f) o w → in_bar f.bars o ≡ false → touch_of f.placed o w true ≡ Ok None → P (store_of f o w v)
   at_store a i u =
       ⊎_elim (λ (t : exhausted f.live (stored_in f o w v) f.revision ≡ true). rw (store_exhausted f o w v t) (s.exhausts a i t))
       (λ (t : exhausted f.live (stored_in f o w v) f.revision ≡ false). rw (store_kept f o w v t) (s.stores a i u t))
       (true_or_false (exhausted f.live (stored_in f o w v) f.revision))
 
   touched : Aligned (space_of f) o w → in_bar f.bars o ≡ false → (t : Touch) → touch_of f.placed o w true ≡ t → P (write_touched f o w v t)
-  touched a i touch.Untouched e = at_store a i e
-  touched a i (touch.Effect id region offset regionOffset) e = s.effect a i id region offset regionOffset e
-  touched a i touch.Refused e = s.bad_effect a i e
+  touched a i (Ok None) e = at_store a i e
+  touched a i (Ok (Some hit)) e = s.effect a i hit e
+  touched a i (Err r) e = s.bad_effect a i (rw (touch_refusal f.placed o w true r e) at e)
 
   at_good : Aligned (space_of f) o w → P (write_good f o w v)
   at_good a =
@@ -81,4 +82,4 @@ module _ (P : WriteDone → Type 0) (f : FunctionState) (o w v : ℕ) (s : Shown
 pub state_by : (P : FunctionState → Type 0) (f : FunctionState) (o w v : ℕ) → P f → P (with_bar f (slot_at o) (probed (bar_at f.bars (slot_at o)))) → P (with_live f (stored_in f o w v) (revision_after f.live (stored_in f o w v) f.revision)) → P (write_of f o w v).state
 state_by P f o w v same probe store =
     write_by_lem (λ d. P d.state) f o w v
-    (record { bad_access = λ e. same; probing = λ a i. probe; candidate = λ a i x e. same; effect = λ a i id region offset regionOffset e. same; bad_effect = λ a i e. same; exhausts = λ a i e. same; stores = λ a i u e. store })
+    (record { bad_access = λ e. same; probing = λ a i. probe; candidate = λ a i x e. same; effect = λ a i hit e. same; bad_effect = λ a i e. same; exhausts = λ a i e. same; stores = λ a i u e. store })

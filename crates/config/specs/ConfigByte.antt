@@ -1,12 +1,10 @@
 -- Where config bytes may stand: refusal 9 of document 01.
-use Rattle.std.specs.Prelude.{ℕ, ◌<◌, min, Bool, true, false, not, ◌&&◌, ◌||◌, ◌≡◌, eqb, leb, ltb, length, get_or}
+use Rattle.std.specs.Prelude.{is_none, ℕ, ◌<◌, min, Bool, true, false, not, ◌&&◌, ◌||◌, ◌≡◌, eqb, leb, ltb, length, get_or}
 use Rattle.refusal.specs.Number.{accepted, bad_config_byte}
 use Rattle.address.specs.Kinds.{offset}
 use Rattle.address.specs.Layout.{cache_line_size, latency_timer, interrupt_line, standard_header_end}
 use Rattle.word.specs.Search.{first_of}
 use Rattle.capability.specs.Mode.{holder_of}
-use Rattle.capability.specs.declared.byte_mode.Holder.{Holder}
-use Rattle.capability.specs.declared.byte_mode.Holder.TheVariants as holder
 use Rattle.capability.specs.declared.placed.Placed.{Placed}
 use Rattle.config.specs.declared.config_byte.ByteCheck.{ByteCheck}
 use Rattle.config.specs.declared.config_byte.ByteCheck.TheVariants as byte_check
@@ -28,14 +26,9 @@ byte_offset f i = (get_or f.bytes i no_config_byte).offset.0
 abbrev pub header_byte : ℕ → Bool
 header_byte o = eqb o cache_line_size || (eqb o latency_timer || eqb o interrupt_line)
 
--- "outside every capability"
-abbrev pub nobody : Holder → Bool
-nobody holder.Nobody = true
-nobody (holder.Capability i) = false
-
 -- "or in 0x40 to 0xff outside every capability", of a config space of `space` bytes
 unfoldable pub byte_ok : ℕ → Placed → ℕ → Bool
-byte_ok space p o = header_byte o || (leb standard_header_end o && (ltb o space && nobody (holder_of p o)))
+byte_ok space p o = header_byte o || (leb standard_header_end o && (ltb o space && is_none (holder_of p o)))
 
 -- whether the config byte at an index is refused
 abbrev pub byte_bad : ℕ → Contents → Placed → ℕ → Bool

@@ -1,5 +1,5 @@
 -- A read of config space (document 01, "Access and reset").
-use Rattle.std.specs.Prelude.{ℕ, ◌%◌, false, cond}
+use Rattle.std.specs.Prelude.{ℕ, ◌%◌, false, cond, Some, None, Ok, Err}
 use Rattle.refusal.specs.Number.{accepted, bad_access, bad_touch}
 use Rattle.word.specs.Number.{read_at, bytes_of}
 use Rattle.address.specs.Layout.{bar_register_size}
@@ -7,10 +7,8 @@ use Rattle.address.specs.Check.{access_of}
 use Rattle.address.specs.declared.access.Access.{Access}
 use Rattle.address.specs.declared.access.Access.TheVariants as access
 use Rattle.bar.specs.State.{shown}
-use Rattle.capability.specs.Touch.{touch_of}
+use Rattle.capability.specs.Touch.{touch_of, Touch}
 use Rattle.capability.specs.Snapshot.{snapshot_of}
-use Rattle.capability.specs.declared.effect_access.Touch.{Touch}
-use Rattle.capability.specs.declared.effect_access.Touch.TheVariants as touch
 use Rattle.capability.specs.declared.snapshot.Snapshot.{Snapshot}
 use Rattle.config.specs.State.{bar_at, slot_at, in_bar, no_body}
 use Rattle.config.specs.Space.{space_of}
@@ -22,7 +20,7 @@ use Rattle.config.specs.declared.read_step.ReadReply.{ReadReply}
 -- document 01's number for each answer
 abbrev pub read_number : ReadAnswer → ℕ
 read_number (Value v) = accepted
-read_number (Effect id region offset regionOffset) = accepted
+read_number (Effect hit) = accepted
 read_number BadAccess = bad_access
 read_number BadEffect = bad_touch
 
@@ -35,9 +33,9 @@ register_bytes f o w = read_at (bytes_of bar_register_size (shown (bar_at f.bars
 
 -- "Elsewhere, an access that touches an effect follows 19, or is answered ..; nothing changes. Any other read gives the live bytes"
 abbrev pub read_touched : FunctionState → ℕ → ℕ → Touch → ReadReply
-read_touched f o w touch.Untouched = read_reply (Value (read_at f.live o w)) no_body
-read_touched f o w (touch.Effect id region offset regionOffset) = read_reply (Effect id region offset regionOffset) (snapshot_of f.placed f.live region.capability)
-read_touched f o w touch.Refused = read_reply BadEffect no_body
+read_touched f o w (Ok None) = read_reply (Value (read_at f.live o w)) no_body
+read_touched f o w (Ok (Some hit)) = read_reply (Effect hit) (snapshot_of f.placed f.live hit.region.capability)
+read_touched f o w (Err r) = read_reply BadEffect no_body
 
 -- a checked read
 unfoldable pub read_good : FunctionState → ℕ → ℕ → ReadReply

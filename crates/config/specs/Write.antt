@@ -1,5 +1,5 @@
 -- A write to config space (document 01, "Access and reset"), but for the acceptance of a candidate, which the bus decides.
-use Rattle.std.specs.Prelude.{ℕ, ◌%◌, true, cond}
+use Rattle.std.specs.Prelude.{ℕ, ◌%◌, true, cond, Some, None, Ok, Err}
 use Rattle.refusal.specs.Number as refusal
 use Rattle.word.specs.Store.{stored}
 use Rattle.address.specs.Layout.{bar_register_size}
@@ -12,10 +12,8 @@ use Rattle.bar.specs.State.{asks, probed, relocated}
 use Rattle.bar.specs.declared.bar_state.BarWrite.{BarWrite}
 use Rattle.bar.specs.declared.bar_state.BarWrite.TheVariants as bar_write
 use Rattle.bar.specs.declared.bar_state.Relocation.{Relocation}
-use Rattle.capability.specs.Touch.{touch_of}
+use Rattle.capability.specs.Touch.{touch_of, Touch}
 use Rattle.capability.specs.Snapshot.{snapshot_of}
-use Rattle.capability.specs.declared.effect_access.Touch.{Touch}
-use Rattle.capability.specs.declared.effect_access.Touch.TheVariants as touch
 use Rattle.capability.specs.declared.snapshot.Snapshot.{Snapshot}
 use Rattle.config.specs.State.{bar_at, slot_at, in_bar, no_body, with_live, with_bar}
 use Rattle.config.specs.Space.{space_of}
@@ -30,7 +28,7 @@ abbrev pub write_number : WriteAnswer → ℕ
 write_number Stored = refusal.accepted
 write_number (Probing slot) = refusal.accepted
 write_number (Candidate slot address) = refusal.accepted
-write_number (Effect id region offset regionOffset) = refusal.accepted
+write_number (Effect hit) = refusal.accepted
 write_number BadAccess = refusal.bad_access
 write_number BadEffect = refusal.bad_touch
 write_number Exhausted = refusal.exhausted
@@ -55,9 +53,9 @@ unfoldable pub bar_step : FunctionState → ℕ → ℕ → ℕ → WriteDone
 bar_step f o w v = bar_asked f (slot_at o) (asks (bar_at f.bars (slot_at o)) (o % bar_register_size) w v)
 
 abbrev pub write_touched : FunctionState → ℕ → ℕ → ℕ → Touch → WriteDone
-write_touched f o w v touch.Untouched = store_of f o w v
-write_touched f o w v (touch.Effect id region offset regionOffset) = write_done (Effect id region offset regionOffset) (snapshot_of f.placed f.live region.capability) f
-write_touched f o w v touch.Refused = write_done BadEffect no_body f
+write_touched f o w v (Ok None) = store_of f o w v
+write_touched f o w v (Ok (Some hit)) = write_done (Effect hit) (snapshot_of f.placed f.live hit.region.capability) f
+write_touched f o w v (Err r) = write_done BadEffect no_body f
 
 -- a checked write
 unfoldable pub write_good : FunctionState → ℕ → ℕ → ℕ → WriteDone

@@ -5,7 +5,7 @@ ghost use Rattle.config.specs.ConfigByte.{byte_count, byte_ok, byte_check_of, by
 use crate::function::Contents;
 use address::limits::CONFIG_BYTE_LIMIT;
 use address::{ConfigOffset, config_layout};
-use capability::{Holder, Placed, capability_at};
+use capability::{Placed, capability_at};
 
 // With the index of the config byte at fault.
 #[derive(Clone, Copy)]
@@ -53,10 +53,7 @@ fn byte_ok(space: u16, placed: Placed, offset: ConfigOffset) -> bool
     if (space as usize) <= at {
         return false;
     }
-    match capability_at(placed, offset) {
-        Holder::Capability(_) => false,
-        Holder::Nobody => true,
-    }
+    capability_at(placed, offset).is_none()
 }
 
 // Refusal 9: the first config byte that may not stand where it is.

@@ -5,18 +5,14 @@ ghost use Rattle.config.specs.Read.{read_number, register_bytes, read_touched, r
 use crate::state::{FunctionState, bar_at, in_bar, no_body, slot_at, space_of};
 use address::config_layout::CONFIG_BAR_REGISTER_SIZE;
 use address::{Access, ConfigOffset, check};
-use capability::{PlacedEffect, Snapshot, Touch, effect_for_access, snapshot_of};
+use capability::{EffectHit, Snapshot, effect_for_access, snapshot_of};
+use refusal::Refusal;
 
-// What a read gives: a value, or an effect with its capability's id, its region and the offset from the capability's start and from the region's own; or refusal 18 or 19.
+// What a read gives: a value, or the effect that it is inside; or refusal 18 or 19.
 #[derive(Clone, Copy)]
 pub enum ReadAnswer {
     Value(u64),
-    Effect {
-        capability_id: u8,
-        region: PlacedEffect,
-        offset: u16,
-        region_offset: u16,
-    },
+    Effect(EffectHit),
     BadAccess,
     BadEffect,
 }
@@ -28,12 +24,7 @@ impl ReadAnswer {
     {
         match self {
             ReadAnswer::Value(_) => refusal::ACCEPTED,
-            ReadAnswer::Effect {
-                capability_id: _,
-                region: _,
-                offset: _,
-                region_offset: _,
-            } => refusal::ACCEPTED,
+            ReadAnswer::Effect(_) => refusal::ACCEPTED,
             ReadAnswer::BadAccess => refusal::BAD_ACCESS,
             ReadAnswer::BadEffect => refusal::BAD_TOUCH,
         }
@@ -60,34 +51,29 @@ fn register_bytes(state: FunctionState, offset: usize, width: usize) -> u64
 }
 
 // A read outside the BARs, by what it does to the effects.
-fn read_touched(state: FunctionState, offset: usize, width: usize, touch: Touch) -> ReadReply
+fn read_touched(
+    state: FunctionState,
+    offset: usize,
+    width: usize,
+    touch: Result<Option<EffectHit>, Refusal>,
+) -> ReadReply
     ensures { result ≡ read_touched state offset width touch }
 {
     let live = state.live;
     match touch {
-        Touch::Untouched => ReadReply {
+        Ok(None) => ReadReply {
             answer: ReadAnswer::Value(word::read(&live, offset, width)),
             body: no_body(),
         },
-        Touch::Effect {
-            capability_id,
-            region,
-            offset,
-            region_offset,
-        } => {
+        Ok(Some(hit)) => {
             let placed = state.placed;
-            let body = snapshot_of(placed, &live, region.capability as usize);
+            let body = snapshot_of(placed, &live, hit.region.capability as usize);
             ReadReply {
-                answer: ReadAnswer::Effect {
-                    capability_id,
-                    region,
-                    offset,
-                    region_offset,
-                },
+                answer: ReadAnswer::Effect(hit),
                 body,
             }
         }
-        Touch::Refused => ReadReply {
+        Err(_) => ReadReply {
             answer: ReadAnswer::BadEffect,
             body: no_body(),
         },

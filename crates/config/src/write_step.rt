@@ -7,23 +7,16 @@ use crate::state::{FunctionState, bar_at, in_bar, no_body, slot_at, space_of, wi
 use crate::store_leaf::store_live;
 use address::{Access, ConfigOffset, Slot, check, config_layout};
 use bar::{BarWrite, Relocation};
-use capability::{PlacedEffect, Snapshot, Touch, effect_for_access, snapshot_of};
+use capability::{EffectHit, Snapshot, effect_for_access, snapshot_of};
+use refusal::Refusal;
 
 // What a write did: stored, started a probe, asks for a candidate (nothing is changed until the bus answers), touched an effect; or refusal 18, 19 or 20.
 #[derive(Clone, Copy)]
 pub enum WriteAnswer {
     Stored,
     Probing(usize),
-    Candidate {
-        slot: usize,
-        address: u64,
-    },
-    Effect {
-        capability_id: u8,
-        region: PlacedEffect,
-        offset: u16,
-        region_offset: u16,
-    },
+    Candidate { slot: usize, address: u64 },
+    Effect(EffectHit),
     BadAccess,
     BadEffect,
     Exhausted,
@@ -41,12 +34,7 @@ impl WriteAnswer {
                 slot: _,
                 address: _,
             } => refusal::ACCEPTED,
-            WriteAnswer::Effect {
-                capability_id: _,
-                region: _,
-                offset: _,
-                region_offset: _,
-            } => refusal::ACCEPTED,
+            WriteAnswer::Effect(_) => refusal::ACCEPTED,
             WriteAnswer::BadAccess => refusal::BAD_ACCESS,
             WriteAnswer::BadEffect => refusal::BAD_TOUCH,
             WriteAnswer::Exhausted => refusal::REVISION_EXHAUSTED,
@@ -118,33 +106,23 @@ fn write_touched(
     offset: usize,
     width: usize,
     value: u64,
-    touch: Touch,
+    touch: Result<Option<EffectHit>, Refusal>,
 ) -> WriteDone
     ensures { result ≡ write_touched state offset width value touch }
 {
     match touch {
-        Touch::Untouched => store_step(state, offset, width, value),
-        Touch::Effect {
-            capability_id,
-            region,
-            offset,
-            region_offset,
-        } => {
+        Ok(None) => store_step(state, offset, width, value),
+        Ok(Some(hit)) => {
             let live = state.live;
             let placed = state.placed;
-            let body = snapshot_of(placed, &live, region.capability as usize);
+            let body = snapshot_of(placed, &live, hit.region.capability as usize);
             let reply = WriteReply {
-                answer: WriteAnswer::Effect {
-                    capability_id,
-                    region,
-                    offset,
-                    region_offset,
-                },
+                answer: WriteAnswer::Effect(hit),
                 body,
             };
             WriteDone { reply, state }
         }
-        Touch::Refused => plain(WriteAnswer::BadEffect, state),
+        Err(_) => plain(WriteAnswer::BadEffect, state),
     }
 }
 

@@ -73,7 +73,7 @@ access_room = effect_room
 
 abbrev pub read_answer_text : ℕ → Snapshot → ReadAnswer → List ℕ
 read_answer_text width body (read_answer.Value v) = value_text width v
-read_answer_text width body (read_answer.Effect id region offset regionOffset) = effect_text id region offset regionOffset body
+read_answer_text width body (read_answer.Effect hit) = effect_text hit body
 read_answer_text width body read_answer.BadAccess = refused_text refusal.bad_access
 read_answer_text width body read_answer.BadEffect = refused_text refusal.bad_touch
 
@@ -101,7 +101,7 @@ write_answer_text body write_answer.Dropped = dropped_line
 write_answer_text body (write_answer.Probing slot) = probing_text slot
 write_answer_text body (write_answer.Moved slot address) = placed_text moved_word slot address
 write_answer_text body (write_answer.Kept slot address) = placed_text kept_word slot address
-write_answer_text body (write_answer.Effect id region offset regionOffset) = effect_text id region offset regionOffset body
+write_answer_text body (write_answer.Effect hit) = effect_text hit body
 write_answer_text body write_answer.BadAccess = refused_text refusal.bad_access
 write_answer_text body write_answer.BadEffect = refused_text refusal.bad_touch
 write_answer_text body (write_answer.Exhausted device) = exhausted_text device

@@ -21,7 +21,7 @@ function_zero = 46 ∷ 48 ∷ []
 -- "shows what reads of one byte show; a byte that a read does not give (an effect's) is shown as the live image has it"
 abbrev pub shown_or : ReadAnswer → ℕ → ℕ
 shown_or (read_answer.Value v) live = v
-shown_or (read_answer.Effect id region offset regionOffset) live = live
+shown_or (read_answer.Effect hit) live = live
 shown_or read_answer.BadAccess live = live
 shown_or read_answer.BadEffect live = live
 

@@ -5,6 +5,7 @@ use Rattle.text.specs.Part.{parts_below}
 use Rattle.text.specs.Line.{blank, ended, column}
 use Rattle.capability.specs.Size.{body_most}
 use Rattle.capability.specs.declared.placed.PlacedEffect.{PlacedEffect}
+use Rattle.capability.specs.declared.effect_access.EffectHit.{EffectHit}
 use Rattle.capability.specs.declared.snapshot.Snapshot.{Snapshot}
 
 -- "effect" and "-", in ASCII
@@ -41,9 +42,9 @@ abbrev pub region_room : ℕ
 region_room = 13
 
 -- "capability id, .., the access's offset from the capability's start", the body, and "at the end: the offset from the region's start, two digits"
-unfoldable pub effect_text : ℕ → PlacedEffect → ℕ → ℕ → Snapshot → List ℕ
-effect_text id region offset regionOffset body =
-    effect_word ++ column 2 id ++ region_text region ++ column 2 offset ++ body_column body ++ column 2 regionOffset ++ ended
+unfoldable pub effect_text : EffectHit → Snapshot → List ℕ
+effect_text hit body =
+    effect_word ++ column 2 hit.capability_id ++ region_text hit.region ++ column 2 hit.offset ++ body_column body ++ column 2 hit.region_offset ++ ended
 
 abbrev pub effect_room : ℕ
 effect_room = 6 + 3 + region_room + 3 + 1 + body_room + 3 + 1

@@ -47,14 +47,9 @@ pub(crate) fn put_read(text: &mut [u8], at: usize, width: usize, reply: ReadRepl
     let answer = reply.answer;
     match answer {
         ReadAnswer::Value(value) => put_value(text, at, width, value),
-        ReadAnswer::Effect {
-            capability_id,
-            region,
-            offset,
-            region_offset,
-        } => {
+        ReadAnswer::Effect(hit) => {
             let body = reply.body;
-            put_effect(text, at, capability_id, region, offset, region_offset, body)
+            put_effect(text, at, hit, body)
         }
         ReadAnswer::BadAccess => put_refused(text, at, refusal::BAD_ACCESS),
         ReadAnswer::BadEffect => put_refused(text, at, refusal::BAD_TOUCH),
@@ -92,14 +87,9 @@ pub(crate) fn put_write(text: &mut [u8], at: usize, reply: BusWriteReply) -> usi
         BusWriteAnswer::Probing(slot) => put_probing(text, at, slot),
         BusWriteAnswer::Moved { slot, address } => put_placed(text, at, b"moved", slot, address),
         BusWriteAnswer::Kept { slot, address } => put_placed(text, at, b"kept", slot, address),
-        BusWriteAnswer::Effect {
-            capability_id,
-            region,
-            offset,
-            region_offset,
-        } => {
+        BusWriteAnswer::Effect(hit) => {
             let body = reply.body;
-            put_effect(text, at, capability_id, region, offset, region_offset, body)
+            put_effect(text, at, hit, body)
         }
         BusWriteAnswer::BadAccess => put_refused(text, at, refusal::BAD_ACCESS),
         BusWriteAnswer::BadEffect => put_refused(text, at, refusal::BAD_TOUCH),

@@ -19,12 +19,7 @@ fn shown_or(answer: ReadAnswer, live: u8) -> u64
 {
     match answer {
         ReadAnswer::Value(value) => value,
-        ReadAnswer::Effect {
-            capability_id: _,
-            region: _,
-            offset: _,
-            region_offset: _,
-        } => wide(live),
+        ReadAnswer::Effect(_) => wide(live),
         ReadAnswer::BadAccess => wide(live),
         ReadAnswer::BadEffect => wide(live),
     }

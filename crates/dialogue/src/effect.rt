@@ -3,7 +3,7 @@ ghost use Rattle.std.specs.Prelude.{◌≡◌, ◌++◌, ◌+◌, ◌≤◌, len
 ghost use Rattle.dialogue.specs.Effect.{body_bytes, body_text, body_column, body_room, region_text, region_room, effect_text, effect_room};
 
 use crate::part::{put_bytes, put_column, put_hex, wide, wide_word};
-use capability::{CAPABILITY_BODY_MAX_SIZE, PlacedEffect, Snapshot};
+use capability::{CAPABILITY_BODY_MAX_SIZE, EffectHit, PlacedEffect, Snapshot};
 
 // The bytes of a body.
 fn put_body_bytes(text: &mut [u8], at: usize, body: Snapshot) -> usize
@@ -52,23 +52,15 @@ fn put_region(text: &mut [u8], at: usize, region: PlacedEffect) -> usize
     put_column(text, length, 1, wide(region.access))
 }
 
-pub(crate) fn put_effect(
-    text: &mut [u8],
-    at: usize,
-    capability_id: u8,
-    region: PlacedEffect,
-    offset: u16,
-    region_offset: u16,
-    body: Snapshot,
-) -> usize
+pub(crate) fn put_effect(text: &mut [u8], at: usize, hit: EffectHit, body: Snapshot) -> usize
     requires { at + effect_room ≤ length text.old }
-    ensures { (result ≤ at + effect_room) × (take result text.new ≡ take at text.old ++ effect_text capability_id region offset region_offset body) }
+    ensures { (result ≤ at + effect_room) × (take result text.new ≡ take at text.old ++ effect_text hit body) }
 {
     let word = put_bytes(text, at, b"effect");
-    let id = put_column(text, word, 2, wide(capability_id));
-    let region = put_region(text, id, region);
-    let offset = put_column(text, region, 2, wide_word(offset));
+    let id = put_column(text, word, 2, wide(hit.capability_id));
+    let region = put_region(text, id, hit.region);
+    let offset = put_column(text, region, 2, wide_word(hit.offset));
     let body = put_body_column(text, offset, body);
-    let inside = put_column(text, body, 2, wide_word(region_offset));
+    let inside = put_column(text, body, 2, wide_word(hit.region_offset));
     put_bytes(text, inside, b"\n")
 }

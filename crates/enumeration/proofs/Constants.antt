@@ -7,6 +7,7 @@ use mathlib.Core.Path.{◌≡◌, refl, ◌∙◌}
 use native.Mathlib.Nat.{mod-mod, mod-eq_of_lt}
 use native.Mathlib.Omega.{arith}
 use lib.ListN.{get_or}
+use Rattle.std.proofs.Common.{None, Ok}
 use Rattle.word.specs.Number.{byte_of}
 use Rattle.word.specs.Width.{width_ok}
 use Rattle.word.proofs.ReadBytes.{read_bytes}
@@ -17,7 +18,6 @@ use Rattle.address.proofs.Accesses.{Aligned, ok_aligned, access_width_pos, acces
 use Rattle.bar.specs.declared.bar_state.BarState.{BarState}
 use Rattle.capability.specs.Layout.{placed_of}
 use Rattle.capability.specs.Touch.{touch_of}
-use Rattle.capability.specs.declared.effect_access.Touch.TheVariants as touch
 use Rattle.capability.specs.declared.placed.Placed.{Placed}
 use Rattle.capability.proofs.Untouched.{low_untouched}
 use Rattle.config.specs.Admitted.{Admitted}
@@ -76,7 +76,7 @@ module _ (d : Declaration) (b : Bus) (s : Sound d b) (k : ℕ) (h : k < d.count)
   admitted = sound_admitted d b s k h
 
   -- a read that meets no BAR and no effect gives the number whose bytes are live there
-  module _ (o w : ℕ) (a : Aligned config_space_size o w) (e : in_bar now.bars o ≡ false) (t : touch_of now.placed o w false ≡ touch.Untouched) where
+  module _ (o w : ℕ) (a : Aligned config_space_size o w) (e : in_bar now.bars o ≡ false) (t : touch_of now.placed o w false ≡ Ok None) where
     pub plain_given : w ≡ 1 → answers_byte b device o ≡ true
     unfolding answers_byte space_of
     plain_given q = rw (sound_read d b s k h o 1, plain_read now o 1 (rw q at a) e (rw q at t))

@@ -8,6 +8,7 @@ use native.Mathlib.Nat.{mod-lt, mod-eq_of_lt}
 use native.Mathlib.Omega.{arith}
 use lib.Dec.{eqb}
 use lib.ListN.{get_or}
+use Rattle.std.proofs.Common.{None, Ok}
 use Rattle.word.specs.Number.{byte_of}
 use Rattle.word.specs.Width.{width_ok}
 use Rattle.word.proofs.Tests.{below_or_not, true_or_false}
@@ -20,7 +21,6 @@ use Rattle.capability.specs.Layout.{placed_of}
 use Rattle.capability.specs.Owner.{capability_count, capability_at, start_of}
 use Rattle.capability.specs.Size.{header_size}
 use Rattle.capability.specs.Touch.{touch_of}
-use Rattle.capability.specs.declared.effect_access.Touch.TheVariants as touch
 use Rattle.capability.specs.declared.placed.Placed.{Placed}
 use Rattle.capability.proofs.Untouched.{header_untouched}
 use Rattle.config.specs.Admitted.{Admitted}
@@ -105,7 +105,7 @@ module _ (d : Declaration) (b : Bus) (s : Sound d b) (k : ℕ) (h : k < d.count)
       head_free : in_bar now.bars j ≡ false
       head_free = bar_after now.bars j (omega (arith, starts_from laid admitted.laid i m))
 
-      head_untouched : touch_of now.placed j 1 false ≡ touch.Untouched
+      head_untouched : touch_of now.placed j 1 false ≡ Ok None
       head_untouched = let p = sound_placed d b s k h in rw p (header_untouched laid (rw p at (sound_apart d b s k h)) i j false m from to)
 
       pub head_given : answers_byte b device j ≡ true

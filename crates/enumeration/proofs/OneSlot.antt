@@ -9,6 +9,7 @@ use native.Mathlib.Omega.{arith}
 use borrow.Author.Tests.{eq-eqb, ne_eqb}
 use lib.ListN.{length, get_or}
 use lib.Seq.{get_or-set_same, set-get_or, set-set}
+use Rattle.std.proofs.Common.{None, Ok}
 use Rattle.word.proofs.Tables.{get_or_table}
 use Rattle.word.proofs.Tests.{below_or_not, same_or_not}
 use Rattle.address.specs.Layout.{config_space_size, bar_count}
@@ -22,7 +23,6 @@ use Rattle.bar.proofs.Registers.{mask_size, mask_lt, mask_zero, address_lt}
 use Rattle.bar.proofs.States.{shown_probing, shown_committed}
 use Rattle.capability.specs.Layout.{placed_of}
 use Rattle.capability.specs.Touch.{touch_of}
-use Rattle.capability.specs.declared.effect_access.Touch.TheVariants as touch
 use Rattle.capability.specs.declared.placed.Placed.{Placed}
 use Rattle.capability.proofs.Untouched.{low_untouched}
 use Rattle.config.specs.Space.{space_of}
@@ -93,7 +93,7 @@ module _ (d : Declaration) (b : Bus) (s : Sound d b) (k : ℕ) (h : k < d.count)
     abbrev laid : Placed
     laid = placed_of its.capabilities
 
-    untouched : (write : Bool) → touch_of now.placed (register_at i) 4 write ≡ touch.Untouched
+    untouched : (write : Bool) → touch_of now.placed (register_at i) 4 write ≡ Ok None
     untouched write = low_untouched now.placed (sound_apart d b s k h) config_space_size (sound_laid d b s k h) (register_at i) 4 write (omega arith)
 
     placed_empty : (bar_at bars i).plan.size ≡ 0

@@ -20,13 +20,13 @@ use Rattle.enumeration.specs.declared.whole.Enumerated.{Enumerated}
 -- the number that a read gives, 0 where it gives none, and whether it gives one
 abbrev pub number_of : ReadAnswer → ℕ
 number_of (read_answer.Value v) = v
-number_of (read_answer.Effect id region offset regionOffset) = 0
+number_of (read_answer.Effect hit) = 0
 number_of read_answer.BadAccess = 0
 number_of read_answer.BadEffect = 0
 
 abbrev pub given : ReadAnswer → Bool
 given (read_answer.Value v) = true
-given (read_answer.Effect id region offset regionOffset) = false
+given (read_answer.Effect hit) = false
 given read_answer.BadAccess = false
 given read_answer.BadEffect = false
 

@@ -12,12 +12,7 @@ fn number_of(answer: ReadAnswer) -> u64
 {
     match answer {
         ReadAnswer::Value(value) => value,
-        ReadAnswer::Effect {
-            capability_id: _,
-            region: _,
-            offset: _,
-            region_offset: _,
-        } => 0,
+        ReadAnswer::Effect(_) => 0,
         ReadAnswer::BadAccess => 0,
         ReadAnswer::BadEffect => 0,
     }
@@ -29,12 +24,7 @@ fn is_given(answer: ReadAnswer) -> bool
 {
     match answer {
         ReadAnswer::Value(_) => true,
-        ReadAnswer::Effect {
-            capability_id: _,
-            region: _,
-            offset: _,
-            region_offset: _,
-        } => false,
+        ReadAnswer::Effect(_) => false,
         ReadAnswer::BadAccess => false,
         ReadAnswer::BadEffect => false,
     }

@@ -29,8 +29,8 @@ read_plain n v b =
 -- a value, or the numbers of an effect with the copy of the live body, or a refusal alone
 abbrev pub read_numbers : Snapshot → ReadAnswer → ReadOut
 read_numbers b (read.Value v) = read_plain (read_number (read.Value v)) v b
-read_numbers b (read.Effect id region offset regionOffset) =
-    record { refusal = read_number (read.Effect id region offset regionOffset); inside = true; value = 0; capability_id = id; region = region; offset = offset; region_offset = regionOffset; body = b }
+read_numbers b (read.Effect hit) =
+    record { refusal = read_number (read.Effect hit); inside = true; value = 0; capability_id = hit.capability_id; region = hit.region; offset = hit.offset; region_offset = hit.region_offset; body = b }
 read_numbers b read.BadAccess = read_plain (read_number read.BadAccess) 0 b
 read_numbers b read.BadEffect = read_plain (read_number read.BadEffect) 0 b
 
@@ -43,7 +43,7 @@ abbrev pub kind_of : WriteAnswer → ℕ
 kind_of write.Stored = 0
 kind_of (write.Probing slot) = 1
 kind_of (write.Candidate slot address) = 2
-kind_of (write.Effect id region offset regionOffset) = 3
+kind_of (write.Effect hit) = 3
 kind_of write.BadAccess = 0
 kind_of write.BadEffect = 0
 kind_of write.Exhausted = 0
@@ -62,8 +62,8 @@ abbrev pub write_numbers : Snapshot → FunctionState → WriteAnswer → WriteO
 write_numbers b f write.Stored = write_at write.Stored 0 0 b f
 write_numbers b f (write.Probing slot) = write_at (write.Probing slot) slot 0 b f
 write_numbers b f (write.Candidate slot address) = write_at (write.Candidate slot address) slot address b f
-write_numbers b f (write.Effect id region offset regionOffset) =
-    record { refusal = write_number (write.Effect id region offset regionOffset); kind = kind_of (write.Effect id region offset regionOffset); slot = 0; address = 0; capability_id = id; region = region; offset = offset; region_offset = regionOffset; body = b; state = f }
+write_numbers b f (write.Effect hit) =
+    record { refusal = write_number (write.Effect hit); kind = kind_of (write.Effect hit); slot = 0; address = 0; capability_id = hit.capability_id; region = hit.region; offset = hit.offset; region_offset = hit.region_offset; body = b; state = f }
 write_numbers b f write.BadAccess = write_at write.BadAccess 0 0 b f
 write_numbers b f write.BadEffect = write_at write.BadEffect 0 0 b f
 write_numbers b f write.Exhausted = write_at write.Exhausted 0 0 b f

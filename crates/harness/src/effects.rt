@@ -10,9 +10,10 @@ ghost use Rattle.harness.specs.Effects.{touched_none, touch_numbers, touch_check
 use address::config_layout::CONFIG_SPACE_SIZE;
 use address::{Access, ConfigOffset, OffsetAnswer, check};
 use capability::{
-    ByteMode, Placed, PlacedEffect, Snapshot, Touch, ViewCopy, effect_for_access, mode_of,
+    ByteMode, EffectHit, Placed, PlacedEffect, Snapshot, ViewCopy, effect_for_access, mode_of,
     snapshot_of, view_copy,
 };
+use refusal::Refusal;
 
 const MODE_OUTSIDE: u8 = 0;
 
@@ -48,26 +49,21 @@ fn outside(refusal: u8) -> Touched
     }
 }
 
-fn touch_numbers(touch: Touch) -> Touched
+fn touch_numbers(touch: Result<Option<EffectHit>, Refusal>) -> Touched
     ensures { result ≡ touch_numbers touch }
 {
-    let refusal = touch.number();
+    let refusal = refusal::number(touch);
     match touch {
-        Touch::Untouched => outside(refusal),
-        Touch::Effect {
-            capability_id,
-            region,
-            offset,
-            region_offset,
-        } => Touched {
+        Ok(None) => outside(refusal),
+        Ok(Some(hit)) => Touched {
             refusal,
             inside: true,
-            capability_id,
-            region,
-            offset,
-            region_offset,
+            capability_id: hit.capability_id,
+            region: hit.region,
+            offset: hit.offset,
+            region_offset: hit.region_offset,
         },
-        Touch::Refused => outside(refusal),
+        Err(_) => outside(refusal),
     }
 }
 
@@ -85,14 +81,14 @@ pub extern "C" fn harness_touch(placed: Placed, offset: usize, width: usize, wri
     }
 }
 
-fn mode_number(mode: ByteMode) -> u8
+fn mode_number(mode: Option<ByteMode>) -> u8
     ensures { result ≡ mode_number mode }
 {
     match mode {
-        ByteMode::Constant => MODE_CONSTANT,
-        ByteMode::StoredMasked => MODE_STORED,
-        ByteMode::EffectOnly => MODE_EFFECT,
-        ByteMode::Outside => MODE_OUTSIDE,
+        Some(ByteMode::Constant) => MODE_CONSTANT,
+        Some(ByteMode::StoredMasked) => MODE_STORED,
+        Some(ByteMode::EffectOnly) => MODE_EFFECT,
+        None => MODE_OUTSIDE,
     }
 }
 

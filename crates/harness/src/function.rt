@@ -96,19 +96,14 @@ fn read_out(answer: ReadAnswer, body: Snapshot) -> ReadOut
     let refusal = answer.number();
     match answer {
         ReadAnswer::Value(value) => plain_read(refusal, value, body),
-        ReadAnswer::Effect {
-            capability_id,
-            region,
-            offset,
-            region_offset,
-        } => ReadOut {
+        ReadAnswer::Effect(hit) => ReadOut {
             refusal,
             inside: true,
             value: 0,
-            capability_id,
-            region,
-            offset,
-            region_offset,
+            capability_id: hit.capability_id,
+            region: hit.region,
+            offset: hit.offset,
+            region_offset: hit.region_offset,
             body,
         },
         ReadAnswer::BadAccess => plain_read(refusal, 0, body),
@@ -162,12 +157,7 @@ fn kind_of(answer: WriteAnswer) -> u8
             slot: _,
             address: _,
         } => KIND_CANDIDATE,
-        WriteAnswer::Effect {
-            capability_id: _,
-            region: _,
-            offset: _,
-            region_offset: _,
-        } => KIND_EFFECT,
+        WriteAnswer::Effect(_) => KIND_EFFECT,
         WriteAnswer::BadAccess => KIND_STORED,
         WriteAnswer::BadEffect => KIND_STORED,
         WriteAnswer::Exhausted => KIND_STORED,
@@ -185,20 +175,15 @@ fn write_out(answer: WriteAnswer, body: Snapshot, state: FunctionState) -> Write
         WriteAnswer::Candidate { slot, address } => {
             plain_write(refusal, kind, slot, address, body, state)
         }
-        WriteAnswer::Effect {
-            capability_id,
-            region,
-            offset,
-            region_offset,
-        } => WriteOut {
+        WriteAnswer::Effect(hit) => WriteOut {
             refusal,
             kind,
             slot: 0,
             address: 0,
-            capability_id,
-            region,
-            offset,
-            region_offset,
+            capability_id: hit.capability_id,
+            region: hit.region,
+            offset: hit.offset,
+            region_offset: hit.region_offset,
             body,
             state,
         },

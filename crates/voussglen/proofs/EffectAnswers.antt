@@ -20,7 +20,7 @@ use Rattle.voussglen.specs.declared.results.WriteAsk.{WriteAsk}
 module _ (b : Bus) (device o w : ℕ) where
   read_inside : (a : ReadAnswer) → (bus_read_of b device o w).answer ≡ a → (read_result a).kind ≡ kind_effect → Inside b device o w false (read_result a).effect
   read_inside (read.Value v) e k = absurd (omega (arith, k))
-  read_inside (read.Effect id region offset regionOffset) e k = bus_read_answer b device o w id region offset regionOffset e
+  read_inside (read.Effect hit) e k = bus_read_answer b device o w hit e
   read_inside read.BadAccess e k = absurd (omega (arith, k))
   read_inside read.BadEffect e k = absurd (omega (arith, k))
 
@@ -30,7 +30,7 @@ module _ (b : Bus) (device o w : ℕ) where
   write_inside v (write.Probing slot) e k = absurd (omega (arith, k))
   write_inside v (write.Moved slot address) e k = absurd (omega (arith, k))
   write_inside v (write.Kept slot address) e k = absurd (omega (arith, k))
-  write_inside v (write.Effect id region offset regionOffset) e k = bus_write_answer b device o w v id region offset regionOffset e
+  write_inside v (write.Effect hit) e k = bus_write_answer b device o w v hit e
   write_inside v write.BadAccess e k = absurd (omega (arith, k))
   write_inside v write.BadEffect e k = absurd (omega (arith, k))
   write_inside v (write.Exhausted d) e k = absurd (omega (arith, k))

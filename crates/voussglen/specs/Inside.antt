@@ -3,9 +3,8 @@ use Rattle.std.specs.Prelude.{ℕ, Bool}
 use Rattle.capability.specs.Answer.{Answer}
 use Rattle.bus.specs.Bus.{function_at, index_on}
 use Rattle.bus.specs.declared.state.Bus.{Bus}
-use Rattle.voussglen.specs.declared.results.EffectTold.{EffectTold}
+use Rattle.capability.specs.declared.effect_access.EffectHit.{EffectHit}
 
 -- document 02, R-9: "Dispatch and every caller pass it on"
-abbrev pub Inside : Bus → ℕ → ℕ → ℕ → Bool → EffectTold → Type 0
-Inside b device o w write t =
-    Answer (function_at b (index_on b device)).placed o w write t.capability_id t.region t.offset t.region_offset
+abbrev pub Inside : Bus → ℕ → ℕ → ℕ → Bool → EffectHit → Type 0
+Inside b device o w write hit = Answer (function_at b (index_on b device)).placed o w write hit

@@ -2,7 +2,7 @@
 use Rattle.std.specs.Prelude.{ℕ, true, false}
 use Rattle.refusal.specs.Number.{accepted}
 use Rattle.capability.specs.Blank.{no_placed_effect}
-use Rattle.capability.specs.declared.placed.PlacedEffect.{PlacedEffect}
+use Rattle.capability.specs.declared.effect_access.EffectHit.{EffectHit}
 use Rattle.capability.specs.declared.snapshot.Snapshot.{Snapshot}
 use Rattle.config.specs.Read.{read_number}
 use Rattle.config.specs.declared.read_step.ReadAnswer.{ReadAnswer}
@@ -20,7 +20,6 @@ use Rattle.bus.specs.declared.memory_lookup.LookupAnswer.{LookupAnswer}
 use Rattle.bus.specs.declared.memory_lookup.LookupAnswer.TheVariants as lookup
 use Rattle.bus.specs.declared.bus_reset.BusResetAnswer.{BusResetAnswer}
 use Rattle.bus.specs.declared.bus_reset.BusResetAnswer.TheVariants as reset
-use Rattle.voussglen.specs.declared.results.EffectTold.{EffectTold}
 use Rattle.voussglen.specs.declared.results.ReadResult.{ReadResult}
 use Rattle.voussglen.specs.declared.results.WriteResult.{WriteResult}
 use Rattle.voussglen.specs.declared.results.LookupResult.{LookupResult}
@@ -58,19 +57,16 @@ kind_hit = 8
 abbrev pub kind_miss : ℕ
 kind_miss = 9
 
--- "capability id, region, offset from the capability's start", and "the offset from the region's own start"
-abbrev pub effect_told : ℕ → PlacedEffect → ℕ → ℕ → EffectTold
-effect_told id region offset regionOffset = record { capability_id = id; region = region; offset = offset; region_offset = regionOffset }
-
-abbrev pub no_effect : EffectTold
-no_effect = effect_told 0 no_placed_effect 0 0
+-- where no effect is told
+abbrev pub no_effect : EffectHit
+no_effect = record { capability_id = 0; region = no_placed_effect; offset = 0; region_offset = 0 }
 
 abbrev pub read_plain : ℕ → ℕ → ℕ → ReadResult
 read_plain kind refusal value = record { kind = kind; refusal = refusal; value = value; effect = no_effect }
 
 abbrev pub read_result : ReadAnswer → ReadResult
 read_result (read.Value v) = read_plain kind_value (read_number (read.Value v)) v
-read_result (read.Effect id region offset regionOffset) = record { kind = kind_effect; refusal = read_number (read.Effect id region offset regionOffset); value = 0; effect = effect_told id region offset regionOffset }
+read_result (read.Effect hit) = record { kind = kind_effect; refusal = read_number (read.Effect hit); value = 0; effect = hit }
 read_result read.BadAccess = read_plain kind_refused (read_number read.BadAccess) 0
 read_result read.BadEffect = read_plain kind_refused (read_number read.BadEffect) 0
 
@@ -83,7 +79,7 @@ write_result write.Dropped = write_plain kind_dropped (bus_write_number write.Dr
 write_result (write.Probing slot) = write_plain kind_probing (bus_write_number (write.Probing slot)) 0 slot 0
 write_result (write.Moved slot address) = write_plain kind_moved (bus_write_number (write.Moved slot address)) 0 slot address
 write_result (write.Kept slot address) = write_plain kind_kept (bus_write_number (write.Kept slot address)) 0 slot address
-write_result (write.Effect id region offset regionOffset) = record { kind = kind_effect; refusal = bus_write_number (write.Effect id region offset regionOffset); device = 0; slot = 0; address = 0; effect = effect_told id region offset regionOffset }
+write_result (write.Effect hit) = record { kind = kind_effect; refusal = bus_write_number (write.Effect hit); device = 0; slot = 0; address = 0; effect = hit }
 write_result write.BadAccess = write_plain kind_refused (bus_write_number write.BadAccess) 0 0 0
 write_result write.BadEffect = write_plain kind_refused (bus_write_number write.BadEffect) 0 0 0
 write_result (write.Exhausted device) = write_plain kind_refused (bus_write_number (write.Exhausted device)) device 0 0
@@ -91,7 +87,7 @@ write_result (write.Exhausted device) = write_plain kind_refused (bus_write_numb
 -- the buffer for a body: that of an effect, else what it held
 abbrev pub read_body : Snapshot → Snapshot → ReadAnswer → Snapshot
 read_body told held (read.Value v) = held
-read_body told held (read.Effect id region offset regionOffset) = told
+read_body told held (read.Effect hit) = told
 read_body told held read.BadAccess = held
 read_body told held read.BadEffect = held
 
@@ -101,7 +97,7 @@ write_body told held write.Dropped = held
 write_body told held (write.Probing slot) = held
 write_body told held (write.Moved slot address) = held
 write_body told held (write.Kept slot address) = held
-write_body told held (write.Effect id region offset regionOffset) = told
+write_body told held (write.Effect hit) = told
 write_body told held write.BadAccess = held
 write_body told held write.BadEffect = held
 write_body told held (write.Exhausted device) = held

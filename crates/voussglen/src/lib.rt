@@ -14,8 +14,7 @@ pub use reads::vg_read;
 pub use reports::vg_enumerate;
 pub use resets::vg_reset;
 pub use results::{
-    EffectTold, LookupAsk, LookupResult, ReadAsk, ReadResult, ResetResult, StartResult, WriteAsk,
-    WriteResult,
+    LookupAsk, LookupResult, ReadAsk, ReadResult, ResetResult, StartResult, WriteAsk, WriteResult,
 };
 pub use starts::vg_start;
 pub use writes::vg_write;

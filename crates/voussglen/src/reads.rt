@@ -4,9 +4,7 @@ ghost use Rattle.bus.specs.Access.{bus_read_of};
 ghost use Rattle.voussglen.specs.Result.{read_plain, read_result, read_body};
 ghost use Rattle.voussglen.specs.Step.{read_step};
 
-use crate::results::{
-    EffectTold, KIND_EFFECT, KIND_REFUSED, KIND_VALUE, ReadAsk, ReadResult, no_effect,
-};
+use crate::results::{KIND_EFFECT, KIND_REFUSED, KIND_VALUE, ReadAsk, ReadResult, no_effect};
 use bus::Bus;
 use capability::Snapshot;
 use config::ReadAnswer;
@@ -29,21 +27,11 @@ fn result_of(answer: ReadAnswer) -> ReadResult
     let refusal = answer.number();
     match answer {
         ReadAnswer::Value(value) => plain(KIND_VALUE, refusal, value),
-        ReadAnswer::Effect {
-            capability_id,
-            region,
-            offset,
-            region_offset,
-        } => ReadResult {
+        ReadAnswer::Effect(hit) => ReadResult {
             kind: KIND_EFFECT,
             refusal,
             value: 0,
-            effect: EffectTold {
-                capability_id,
-                region,
-                offset,
-                region_offset,
-            },
+            effect: hit,
         },
         ReadAnswer::BadAccess => plain(KIND_REFUSED, refusal, 0),
         ReadAnswer::BadEffect => plain(KIND_REFUSED, refusal, 0),
@@ -56,12 +44,7 @@ fn body_of(answer: ReadAnswer, told: Snapshot, held: Snapshot) -> Snapshot
 {
     match answer {
         ReadAnswer::Value(_) => held,
-        ReadAnswer::Effect {
-            capability_id: _,
-            region: _,
-            offset: _,
-            region_offset: _,
-        } => told,
+        ReadAnswer::Effect(_) => told,
         ReadAnswer::BadAccess => held,
         ReadAnswer::BadEffect => held,
     }

@@ -2,7 +2,7 @@
 ghost use Rattle.std.specs.Prelude.{◌≡◌};
 ghost use Rattle.voussglen.specs.Result.{no_effect};
 
-use capability::PlacedEffect;
+use capability::{EffectHit, PlacedEffect};
 
 // What an answer is.
 pub const KIND_REFUSED: u8 = 0;
@@ -25,16 +25,6 @@ pub const KIND_HIT: u8 = 8;
 
 pub const KIND_MISS: u8 = 9;
 
-// The effect that an access is inside: its capability's id, its region, and the access's offset from the capability's start and from the region's own.
-#[repr(C)]
-#[derive(Clone, Copy)]
-pub struct EffectTold {
-    pub capability_id: u8,
-    pub region: PlacedEffect,
-    pub offset: u16,
-    pub region_offset: u16,
-}
-
 // `width` bytes at `offset` of a device.
 #[repr(C)]
 #[derive(Clone, Copy)]
@@ -51,7 +41,7 @@ pub struct ReadResult {
     pub kind: u8,
     pub refusal: u8,
     pub value: u64,
-    pub effect: EffectTold,
+    pub effect: EffectHit,
 }
 
 // `width` bytes of `value` at `offset` of a device.
@@ -73,7 +63,7 @@ pub struct WriteResult {
     pub device: u8,
     pub slot: usize,
     pub address: u64,
-    pub effect: EffectTold,
+    pub effect: EffectHit,
 }
 
 // `width` bytes at a memory address.
@@ -115,10 +105,10 @@ pub struct StartResult {
 }
 
 // What an answer says that is none of an effect.
-pub(crate) fn no_effect() -> EffectTold
+pub(crate) fn no_effect() -> EffectHit
     ensures { result ≡ no_effect }
 {
-    EffectTold {
+    EffectHit {
         capability_id: 0,
         region: PlacedEffect::none(),
         offset: 0,

@@ -4,8 +4,8 @@ ghost use Rattle.voussglen.specs.Result.{write_plain, write_result, write_body};
 ghost use Rattle.voussglen.specs.Step.{write_step};
 
 use crate::results::{
-    EffectTold, KIND_DROPPED, KIND_EFFECT, KIND_KEPT, KIND_MOVED, KIND_PROBING, KIND_REFUSED,
-    KIND_STORED, WriteAsk, WriteResult, no_effect,
+    KIND_DROPPED, KIND_EFFECT, KIND_KEPT, KIND_MOVED, KIND_PROBING, KIND_REFUSED, KIND_STORED,
+    WriteAsk, WriteResult, no_effect,
 };
 use bus::{Bus, BusWriteAnswer};
 use capability::Snapshot;
@@ -34,23 +34,13 @@ fn result_of(answer: BusWriteAnswer) -> WriteResult
         BusWriteAnswer::Probing(slot) => plain(KIND_PROBING, refusal, 0, slot, 0),
         BusWriteAnswer::Moved { slot, address } => plain(KIND_MOVED, refusal, 0, slot, address),
         BusWriteAnswer::Kept { slot, address } => plain(KIND_KEPT, refusal, 0, slot, address),
-        BusWriteAnswer::Effect {
-            capability_id,
-            region,
-            offset,
-            region_offset,
-        } => WriteResult {
+        BusWriteAnswer::Effect(hit) => WriteResult {
             kind: KIND_EFFECT,
             refusal,
             device: 0,
             slot: 0,
             address: 0,
-            effect: EffectTold {
-                capability_id,
-                region,
-                offset,
-                region_offset,
-            },
+            effect: hit,
         },
         BusWriteAnswer::BadAccess => plain(KIND_REFUSED, refusal, 0, 0, 0),
         BusWriteAnswer::BadEffect => plain(KIND_REFUSED, refusal, 0, 0, 0),
@@ -74,12 +64,7 @@ fn body_of(answer: BusWriteAnswer, told: Snapshot, held: Snapshot) -> Snapshot
             slot: _,
             address: _,
         } => held,
-        BusWriteAnswer::Effect {
-            capability_id: _,
-            region: _,
-            offset: _,
-            region_offset: _,
-        } => told,
+        BusWriteAnswer::Effect(_) => told,
         BusWriteAnswer::BadAccess => held,
         BusWriteAnswer::BadEffect => held,
         BusWriteAnswer::Exhausted(_) => held,

@@ -9,18 +9,18 @@ use Rattle.capability.proofs.byte_mode.mode_of.Goals as goal
 use Rattle.capability.proofs.byte_mode.mode_of.Goals.{After-covered-header}
 
 -- whether the byte is one of the header
-header : (t : Bool) (c : After-covered-header) → c.covered-header.result ≡ t → covers (start_of c.args.placed c.in-Capability.i) header_size c.args.offset.0 ≡ t
+header : (t : Bool) (c : After-covered-header) → c.covered-header.result ≡ t → covers (start_of c.args.placed c.in_ok-i.i) header_size c.args.offset.0 ≡ t
 unfolding span_of
 header t c e = rw (← c.value-at.ensures) (rw c.span_at-s.ensures at (sym c.covered-header.ensures ∙ e))
 
 pub returns-then-header : goal.returns-then-header
 returns-then-header c =
-    sym (mode_header _ _ _ _ (sym c.capability_at.ensures ∙ c.in-Capability.is) (header true (goal.at.returns-then-header c).After-covered-header c.if-header.true))
+    sym (mode_header _ _ _ _ (sym c.capability_at.ensures ∙ c.in_ok-i.was) (header true (goal.at.returns-then-header c).After-covered-header c.if-header.true))
 
-pub returns-else-header : goal.returns-else-header
-returns-else-header c =
+pub returns : goal.returns
+returns c =
     rw (c.body_mode.ensures, c.byte_at.ensures, c.owner_of.ensures, c.value-at.ensures)
-    (sym (mode_body _ _ _ _ (sym c.capability_at.ensures ∙ c.in-Capability.is) (header false (goal.at.returns-else-header c).After-covered-header c.if-header.false)))
+    (sym (mode_body _ _ _ _ (sym c.capability_at.ensures ∙ c.in_ok-i.was) (header false (goal.at.returns c).After-covered-header c.if-header.false)))
 
-pub returns-in-Nobody : goal.returns-in-Nobody
-returns-in-Nobody c = sym (mode_outside _ _ _ (sym c.capability_at.ensures ∙ c.in-Nobody.is))
+pub returns-in_err-i : goal.returns-in_err-i
+returns-in_err-i c = c.from_residual.ensures ∙ sym (mode_outside _ _ _ (sym c.capability_at.ensures ∙ c.in_err-i.was))

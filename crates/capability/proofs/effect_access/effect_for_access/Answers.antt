@@ -3,10 +3,10 @@ use mathlib.Core.Path.{sym, ◌∙◌}
 use Rattle.capability.proofs.Touches.{touch_effect, touch_nobody}
 use Rattle.capability.proofs.effect_access.effect_for_access.Goals as goal
 
-pub returns-in-Effect : goal.returns-in-Effect
-returns-in-Effect c =
-    rw (← c.value-at.ensures, c.decided.ensures) (sym (touch_effect _ _ _ _ _ (sym c.first_touched.ensures ∙ c.in-Effect.is)))
+pub returns-in-Some : goal.returns-in-Some
+returns-in-Some c =
+    rw (← c.value-at.ensures, c.decided.ensures) (sym (touch_effect _ _ _ _ _ (sym c.first_touched.ensures ∙ c.in-Some.is)))
 
-pub returns-in-Nobody : goal.returns-in-Nobody
-returns-in-Nobody c =
-    rw (← c.value-at.ensures) (sym (touch_nobody _ _ _ _ (sym c.first_touched.ensures ∙ c.in-Nobody.is)))
+pub returns-in-None : goal.returns-in-None
+returns-in-None c =
+    rw (← c.value-at.ensures) (sym (touch_nobody _ _ _ _ (sym c.first_touched.ensures ∙ c.in-None.is)))

@@ -1,5 +1,6 @@
 -- `byte_ok` asks document 01’s questions in its order.
 use borrow.Author.Tests.{eq-eqb, ne_eqb, le-leb, lt-leb, lt-ltb, le-ltb}
+use Rattle.std.proofs.Math.Bool.{not-not}
 use Rattle.config.specs.ConfigByte.{byte_ok}
 use Rattle.config.proofs.config_byte.byte_ok.Goals as goal
 
@@ -27,12 +28,7 @@ unfolding byte_ok
 returns-then-space-at c =
     rw (← c.value-at.ensures, ne_eqb _ _ c.if-at-eq-CONFIG_CACHE_LINE_SIZE_OFFSET.false, ne_eqb _ _ c.if-at-eq-CONFIG_LATENCY_TIMER_OFFSET.false, ne_eqb _ _ c.if-at-eq-CONFIG_INTERRUPT_LINE_OFFSET.false, le-leb _ _ c.if-at-lt-CONFIG_STANDARD_HEADER_END.false, le-ltb _ _ c.if-space-at.true)
 
-pub returns-in-Capability : goal.returns-in-Capability
+pub returns : goal.returns
 unfolding byte_ok
-returns-in-Capability c =
-    rw (← c.capability_at.ensures, c.in-Capability.is, ← c.value-at.ensures, ne_eqb _ _ c.if-at-eq-CONFIG_CACHE_LINE_SIZE_OFFSET.false, ne_eqb _ _ c.if-at-eq-CONFIG_LATENCY_TIMER_OFFSET.false, ne_eqb _ _ c.if-at-eq-CONFIG_INTERRUPT_LINE_OFFSET.false, le-leb _ _ c.if-at-lt-CONFIG_STANDARD_HEADER_END.false, lt-ltb _ _ c.if-space-at.false)
-
-pub returns-in-Nobody : goal.returns-in-Nobody
-unfolding byte_ok
-returns-in-Nobody c =
-    rw (← c.capability_at.ensures, c.in-Nobody.is, ← c.value-at.ensures, ne_eqb _ _ c.if-at-eq-CONFIG_CACHE_LINE_SIZE_OFFSET.false, ne_eqb _ _ c.if-at-eq-CONFIG_LATENCY_TIMER_OFFSET.false, ne_eqb _ _ c.if-at-eq-CONFIG_INTERRUPT_LINE_OFFSET.false, le-leb _ _ c.if-at-lt-CONFIG_STANDARD_HEADER_END.false, lt-ltb _ _ c.if-space-at.false)
+returns c =
+    rw (← c.capability_at.ensures, c.is_none.ensures, not-not c.is_none.result, ← c.value-at.ensures, ne_eqb _ _ c.if-at-eq-CONFIG_CACHE_LINE_SIZE_OFFSET.false, ne_eqb _ _ c.if-at-eq-CONFIG_LATENCY_TIMER_OFFSET.false, ne_eqb _ _ c.if-at-eq-CONFIG_INTERRUPT_LINE_OFFSET.false, le-leb _ _ c.if-at-lt-CONFIG_STANDARD_HEADER_END.false, lt-ltb _ _ c.if-space-at.false)
