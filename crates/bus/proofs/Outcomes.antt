@@ -1,28 +1,31 @@
 -- What a file starts: by the declaration's answer, and then by placement's.
 use Prim.Native.Nat.{ℕ}
 use mathlib.Core.List.{List}
-use mathlib.Core.Path.{◌≡◌, refl}
+use mathlib.Core.Path.{◌≡◌, refl, sym, ap, ◌∙◌}
 use native.Mathlib.Omega.{arith}
+use Rattle.refusal.specs.Refusal.{number_of}
 use Rattle.address.specs.Limits.{Limits}
-use Rattle.placement.specs.declared.answer.PlacementAnswer.{PlacementAnswer}
-use Rattle.placement.specs.declared.answer.PlacementAnswer.TheVariants as placement
+use Rattle.std.specs.Prelude.{Ok, Err}
+use Rattle.placement.specs.Answer.{Placement, addresses_given}
 use Rattle.declaration.specs.Answer.{declared_by}
 use Rattle.declaration.specs.declared.answer.DeclarationAnswer.{DeclarationAnswer}
 use Rattle.declaration.specs.declared.answer.DeclarationAnswer.TheVariants as answer
 use Rattle.declaration.specs.declared.answer.Place.{Place}
 use Rattle.declaration.specs.declared.answer.Place.TheVariants as place
-use Rattle.bus.specs.Start.{placement_in, placed_start, start_declared, start_answered, start_of}
+use Rattle.bus.specs.Start.{placement_in, addresses_in, placed_start, start_declared, start_answered, start_of}
 use Rattle.bus.specs.Outcome.{declaration_of, by_declaration, by_placement, Outcome, accepted, refused, Refused, Accepted}
 use Rattle.bus.specs.declared.power_up.Started.{Started}
 
 module _ (l : Limits) (file : List ℕ) where
-  by_placed : (a : PlacementAnswer) → (declared_by l file).answer ≡ answer.Accepted → (placement_in (declaration_of l file)).answer ≡ a → Outcome l file (placed_start (declaration_of l file) (placement_in (declaration_of l file)).addresses a)
-  by_placed placement.Placed h e = accepted h e
-  by_placed (placement.Refused number device s) h e = refused number (place.Index device s) (by_placement number device s h e)
+  by_placed : (p : Placement) → (declared_by l file).answer ≡ answer.Accepted → placement_in (declaration_of l file) ≡ p → Outcome l file (placed_start (declaration_of l file) p)
+  by_placed (Ok addresses) h e =
+      let q : addresses_in (declaration_of l file) ≡ addresses = ap addresses_given e in
+      rw (← q) (accepted h (e ∙ ap Ok (sym q)))
+  by_placed (Err r) h e = refused (number_of r.refusal) (place.Index r.device r.slot) (by_placement r h e)
 
   by_declared : (a : DeclarationAnswer) → (declared_by l file).answer ≡ a → Outcome l file (start_answered (declaration_of l file) a)
   unfolding start_declared
-  by_declared answer.Accepted h = by_placed (placement_in (declaration_of l file)).answer h refl
+  by_declared answer.Accepted h = by_placed (placement_in (declaration_of l file)) h refl
   by_declared (answer.Refused number p) h = refused number p (by_declaration number p h)
 
   pub start_outcome : Outcome l file (start_of l file)

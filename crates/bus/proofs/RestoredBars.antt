@@ -15,7 +15,7 @@ use Rattle.bus.specs.Bus.{count_on, function_at}
 use Rattle.bus.specs.Reset.{bus_reset_of}
 use Rattle.bus.specs.Sound.{Sound}
 use Rattle.bus.specs.Spent.{FunctionRestored, BusRestored}
-use Rattle.bus.specs.Start.{declared_function, plan_at, placement_in}
+use Rattle.bus.specs.Start.{declared_function, plan_at, addresses_in}
 use Rattle.bus.specs.declared.state.Bus.{Bus}
 use Rattle.bus.proofs.Restores.{reset_at, reset_past}
 use Rattle.bus.proofs.SoundParts.{sound_count, sound_plan}
@@ -40,5 +40,5 @@ module _ (d : Declaration) (b : Bus) (s : Sound d b) (k : ℕ) (h : k < d.count)
   pub reset_function : function_at (bus_reset_of b).bus k ≡ (reset_done (function_at b k)).state
   reset_function = reset_there b s.room k (rw (sound_count d b s) h)
 
-  pub reset_bar : (i : ℕ) → i < bar_count → bar_at (function_at (bus_reset_of b).bus k).bars i ≡ fresh (plan_at (declared_function d k) (placement_in d).addresses k i)
+  pub reset_bar : (i : ℕ) → i < bar_count → bar_at (function_at (bus_reset_of b).bus k).bars i ≡ fresh (plan_at (declared_function d k) (addresses_in d) k i)
   reset_bar i l = rw (reset_function, reset_bars (function_at b k) i, sound_plan d b s k h i l)

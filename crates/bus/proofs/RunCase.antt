@@ -10,7 +10,7 @@ use Rattle.bar.specs.Bar.{size_ok, power_of_two}
 use Rattle.capability.specs.Declaration.{none_declared}
 use Rattle.capability.specs.Layout.{answer_of, layout_of}
 use Rattle.config.specs.ConfigByte.{byte_check_of}
-use Rattle.placement.specs.Answer.{all_placed}
+use Rattle.std.specs.Prelude.{Ok}
 use Rattle.placement.specs.Examples as example
 use Rattle.placement.specs.Keys.{slot_bar, declared_at, bars_of}
 use Rattle.placement.proofs.Examples.{run}
@@ -48,7 +48,7 @@ said : Said
 unfolding declared_by declared_from checked_whole read_fields read_field frame_of length_allowed body_long said_by said_of taken_said number read_at device_used any_below all_below first_below first_of empty_function empty_contents nothing_so_far opened none_finished finished_with finished_so_far fault_of layout_of answer_of none_declared byte_check_of size_ok power_of_two table filled devices_of declared_bars bars_of declared_at slot_bar range_on ranges_on bus_of functions_of function_start bars_placed
 said = record { answer = refl; aperture = refl; count = refl; devices = refl; bars = refl; ranges = refl }
 
-placed : placement_in declaration ≡ all_placed example.run_addresses
+placed : placement_in declaration ≡ Ok example.run_addresses
 placed = rw said.aperture (same_bars example.run_aperture (declared_bars declaration) example.run_bars example.run_addresses said.bars run)
 
 -- so the bus is that of its declaration, with those addresses

@@ -14,14 +14,14 @@ use Rattle.declaration.specs.declared.answer.Declaration.{Declaration}
 use Rattle.declaration.proofs.Goods.{faultless_layout}
 use Rattle.bus.specs.Bus.{function_at}
 use Rattle.bus.specs.Sound.{Sound}
-use Rattle.bus.specs.Start.{declared_function, bars_placed, placement_in}
+use Rattle.bus.specs.Start.{declared_function, bars_placed, addresses_in}
 use Rattle.bus.specs.declared.state.Bus.{Bus}
 use Rattle.bus.proofs.SoundParts.{sound_admitted, sound_placed, sound_image, sound_mask, sound_byte}
 
 -- image and masks of a declared function, with its BARs where placement put them
 abbrev pub declared_power_on : Declaration → ℕ → PowerOn
 declared_power_on d k =
-    power_on_of config_space_size (declared_function d k).contents (bars_placed (declared_function d k) (placement_in d).addresses k) (placed_of (declared_function d k).capabilities)
+    power_on_of config_space_size (declared_function d k).contents (bars_placed (declared_function d k) (addresses_in d) k) (placed_of (declared_function d k).capabilities)
 
 module _ (d : Declaration) (b : Bus) (s : Sound d b) (k : ℕ) (h : k < d.count) where
   abbrev its : Function

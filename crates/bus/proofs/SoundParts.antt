@@ -20,7 +20,7 @@ use Rattle.declaration.specs.Good.{GoodSlot, empty, used}
 use Rattle.declaration.specs.declared.answer.Declaration.{Declaration}
 use Rattle.declaration.proofs.Goods.{faultless_layout, faultless_admitted}
 use Rattle.bus.specs.Bus.{count_on, function_at}
-use Rattle.bus.specs.Start.{declared_function, plan_at, bars_placed, function_start, placement_in}
+use Rattle.bus.specs.Start.{declared_function, plan_at, bars_placed, function_start, addresses_in}
 use Rattle.bus.specs.Sound.{started_function, SoundFunction, Sound}
 use Rattle.bus.specs.declared.state.Bus.{Bus}
 use Rattle.bus.proofs.BitNumbers.{same_bits}
@@ -53,7 +53,7 @@ module _ (d : Declaration) (b : Bus) (s : Sound d b) where
 
     -- the power-on image and the masks are the declared ones
     abbrev bars : List BarState
-    bars = bars_placed (declared_function d k) (placement_in d).addresses k
+    bars = bars_placed (declared_function d k) (addresses_in d) k
 
     pub sound_image : (function_at b k).power_on ≡ (power_on_of config_space_size (declared_function d k).contents bars (placed_of (declared_function d k).capabilities)).image
     unfolding function_start
@@ -66,15 +66,15 @@ module _ (d : Declaration) (b : Bus) (s : Sound d b) where
     -- a byte that no write can change is the one at power-on
     power_on_byte : (j : ℕ) → get_or (function_at b k).power_on j 0 < 256
     power_on_byte j =
-        rw (its.same.power_on, ← start_live (declared_function d k) (placement_in d).addresses k)
-        (start_bytes (declared_function d k) (placement_in d).addresses k (s.good.functions.each k).contents.bodies j)
+        rw (its.same.power_on, ← start_live (declared_function d k) (addresses_in d) k)
+        (start_bytes (declared_function d k) (addresses_in d) k (s.good.functions.each k).contents.bodies j)
 
     pub sound_byte : (j : ℕ) → get_or (function_at b k).mask j 0 ≡ 0 → get_or (function_at b k).live j 0 ≡ get_or (function_at b k).power_on j 0
     sound_byte j e = same_bits 8 _ _ (its.bytes j) (power_on_byte j) (λ i l. its.unmasked j i l (rw e (zero_bit i)))
 
     -- each plan is the declared BAR at the address that placement gave
-    pub sound_plan : (i : ℕ) → i < bar_count → (bar_at (function_at b k).bars i).plan ≡ plan_at (declared_function d k) (placement_in d).addresses k i
-    sound_plan i l = its.same.plans i ∙ rw (start_bar (declared_function d k) (placement_in d).addresses k i l)
+    pub sound_plan : (i : ℕ) → i < bar_count → (bar_at (function_at b k).bars i).plan ≡ plan_at (declared_function d k) (addresses_in d) k i
+    sound_plan i l = its.same.plans i ∙ rw (start_bar (declared_function d k) (addresses_in d) k i l)
 
     by_slot : (i : ℕ) (m : MemoryBar) → GoodSlot i m → 0 < m.size → Sized m.size
     by_slot i m (empty e) z = let q = ap (λ (m : MemoryBar). m.size) e in absurd (omega arith)

@@ -17,7 +17,7 @@ use Rattle.config.specs.State.{bar_at}
 use Rattle.declaration.specs.declared.answer.Declaration.{Declaration}
 use Rattle.placement.specs.Place.{no_range}
 use Rattle.bus.specs.Bus.{function_at, bar_on, range_on, key_of}
-use Rattle.bus.specs.Start.{declared_function, placement_in}
+use Rattle.bus.specs.Start.{declared_function, addresses_in}
 use Rattle.bus.specs.Sound.{started_bus, plan_on, Clear, Sound}
 use Rattle.bus.specs.declared.state.Bus.{Bus}
 use Rattle.bus.proofs.Committed.{range_slot}
@@ -52,7 +52,7 @@ module _ (d : Declaration) (b : Bus) (s : Sound d b) where
       let k = key / bar_count in
       let i = key % bar_count in
       let f = declared_function d k in
-      let a = (placement_in d).addresses in
+      let a = (addresses_in d) in
       ⊎_elim (λ (h : k < d.count). rw (sound_count d b s, bus_count_on d s.good a, lt-ltb k d.count h, sound_plan d b s k h i (mod-lt key (omega arith)), bus_function d s.good a k h, start_bar f a k i (mod-lt key (omega arith))))
       (λ (h : d.count ≤ k). rw (sound_count d b s, bus_count_on d s.good a, le-ltb k d.count h))
       (below_or_not k d.count)

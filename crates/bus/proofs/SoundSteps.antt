@@ -21,7 +21,7 @@ use Rattle.config.proofs.Kept.{write_same, relocation_same, reset_same, reset_li
 use Rattle.config.proofs.WriteCases.{state_by}
 use Rattle.declaration.specs.Good.{Good}
 use Rattle.declaration.specs.declared.answer.Declaration.{Declaration}
-use Rattle.bus.specs.Start.{declared_function, placement_in}
+use Rattle.bus.specs.Start.{declared_function, addresses_in}
 use Rattle.bus.specs.Sound.{started_function, SoundFunction}
 use Rattle.bus.proofs.Powered.{start_live, start_long, start_bytes}
 use Rattle.bus.proofs.SoundParts.{same_trans}
@@ -80,7 +80,7 @@ reset_sound d good k f s =
     let q = reset_same f in
     let l = reset_live f in
     let t = declared_function d k in
-    let a = (placement_in d).addresses in
+    let a = (addresses_in d) in
     let p : f.power_on ≡ (started_function d k).live = s.same.power_on ∙ sym (start_live t a k) in
     record {
       same = same_trans (started_function d k) f (reset_done f).state s.same q;

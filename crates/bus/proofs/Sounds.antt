@@ -16,22 +16,22 @@ use Rattle.config.proofs.Kept.{same_refl}
 use Rattle.placement.specs.Keys.{key_count, bars_of}
 use Rattle.placement.specs.Order.{range_at}
 use Rattle.placement.specs.Place.{no_range}
-use Rattle.placement.specs.declared.answer.PlacementAnswer.TheVariants as placement
+use Rattle.std.specs.Prelude.{Ok}
 use Rattle.placement.proofs.Answers.{placement_resolved, placement_end}
 use Rattle.declaration.specs.Good.{Bytes, Within, Good}
 use Rattle.declaration.specs.declared.answer.Declaration.{Declaration}
 use Rattle.declaration.specs.declared.answer.DeclarationAnswer.TheVariants as answer
 use Rattle.declaration.proofs.Goods.{accepted_good}
 use Rattle.bus.specs.Bus.{range_on}
-use Rattle.bus.specs.Start.{declared_function, declared_bars, placement_in, start_of}
+use Rattle.bus.specs.Start.{declared_function, declared_bars, placement_in, addresses_in, start_of}
 use Rattle.bus.specs.Sound.{started_function, started_bus, Clear, SoundFunction, Sound, SoundStart}
 use Rattle.bus.specs.Outcome.{declaration_of}
 use Rattle.bus.proofs.Outcomes.{start_accepted}
 use Rattle.bus.proofs.Powered.{start_live, start_long, start_bytes, start_masks, start_six, start_powered, bus_count, bus_aperture, bus_devices, bus_room, bus_device, bus_function, bus_past, bus_range, bus_no_range}
 
-module _ (d : Declaration) (g : Good d) (e : (placement_in d).answer ≡ placement.Placed) where
+module _ (d : Declaration) (g : Good d) (e : placement_in d ≡ Ok (addresses_in d)) where
   abbrev addresses : List ℕ
-  addresses = (placement_in d).addresses
+  addresses = (addresses_in d)
 
   -- the range at a key is one that placement gave, or empty
   by_key : (key : ℕ) (P : Range → Type 0) → (key / bar_count < d.count → key < key_count → P (range_at (bars_of (declared_bars d)) addresses key)) → (d.count ≤ key / bar_count → P no_range) → P (range_on (started_bus d) key)
@@ -42,11 +42,11 @@ module _ (d : Declaration) (g : Good d) (e : (placement_in d).answer ≡ placeme
 
   pub started_clear : Clear d.aperture (range_on (started_bus d))
   started_clear =
-      let r = placement_resolved d.aperture (declared_bars d) e in
+      let r = placement_resolved d.aperture (declared_bars d) addresses e in
       record {
         aligned = λ k. by_key k (λ s. 0 < s.size → multiple s ≡ true) (λ h l z. r.aligned k l z) (λ h z. absurd (omega arith));
         within = λ k. by_key k (λ s. 0 < s.size → lies_in d.aperture s ≡ true) (λ h l z. r.within k l z) (λ h z. absurd (omega arith));
-        below = λ k. by_key k (λ s. end_of s ≤ four_gib) (λ h l. placement_end d.aperture (declared_bars d) e g.aperture.most k l) (λ h. omega arith);
+        below = λ k. by_key k (λ s. end_of s ≤ four_gib) (λ h l. placement_end d.aperture (declared_bars d) addresses e g.aperture.most k l) (λ h. omega arith);
         apart = λ j k n. by_key j (λ s. meets s (range_on (started_bus d) k) ≡ false)
             (λ h l. by_key k (λ s. meets (range_at (bars_of (declared_bars d)) addresses j) s ≡ false) (λ i m. r.apart j k l m n) (λ i. empty_second _ no_range refl))
             (λ h. empty_first no_range _ refl);

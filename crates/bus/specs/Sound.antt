@@ -1,5 +1,5 @@
 -- What stays true of a bus from an accepted file through every access and every reset, and what is true of it at its start besides. proofs/Sounds.antt shows both of the start, proofs/SoundAccesses.antt that every write by device and every reset keeps the first.
-use Rattle.std.specs.Prelude.{ℕ, ◌/◌, ◌<◌, ◌≤◌, true, false, cond, ◌≡◌, ltb, length, get_or}
+use Rattle.std.specs.Prelude.{ℕ, ◌/◌, ◌<◌, ◌≤◌, true, false, cond, ◌≡◌, ltb, length, get_or, Ok}
 use Rattle.word.specs.Bit.{bit}
 use Rattle.address.specs.Layout.{config_space_size, bar_count}
 use Rattle.address.specs.Limits.{function_room}
@@ -11,20 +11,19 @@ use Rattle.config.specs.Same.{Same}
 use Rattle.config.specs.State.{bar_at}
 use Rattle.config.specs.declared.state.FunctionState.{FunctionState}
 use Rattle.placement.specs.Place.{no_range}
-use Rattle.placement.specs.declared.answer.PlacementAnswer.TheVariants as placement
 use Rattle.declaration.specs.Good.{Good}
 use Rattle.declaration.specs.Standing.{most_device}
 use Rattle.declaration.specs.declared.answer.Declaration.{Declaration}
 use Rattle.bus.specs.Bus.{no_function_state, count_on, device_at, function_at, bar_on, range_on}
-use Rattle.bus.specs.Start.{declared_function, function_start, devices_of, bus_of, placement_in}
+use Rattle.bus.specs.Start.{declared_function, function_start, devices_of, bus_of, placement_in, addresses_in}
 use Rattle.bus.specs.declared.state.Bus.{Bus}
 
 -- the function at an index as it starts, and the bus
 abbrev pub started_function : Declaration → ℕ → FunctionState
-started_function d k = function_start (declared_function d k) (placement_in d).addresses k
+started_function d k = function_start (declared_function d k) (addresses_in d) k
 
 abbrev pub started_bus : Declaration → Bus
-started_bus d = bus_of d (placement_in d).addresses
+started_bus d = bus_of d (addresses_in d)
 
 -- the range in which a BAR was placed, by key: where a reset puts it
 unfoldable pub plan_on : Bus → ℕ → Range
@@ -49,7 +48,7 @@ pub record SoundFunction (start f : FunctionState) : Type 0 where
 -- a bus of a declaration: its aperture and devices, each function by what was declared, blanks past the last, and every BAR's committed range clear
 pub record Sound (d : Declaration) (b : Bus) : Type 0 where
   pub good : Good d
-  pub accepted : (placement_in d).answer ≡ placement.Placed
+  pub accepted : placement_in d ≡ Ok (addresses_in d)
   pub aperture : b.aperture ≡ d.aperture
   pub count : b.count ≡ d.count
   pub few : b.count ≤ function_room

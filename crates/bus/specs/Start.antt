@@ -1,5 +1,6 @@
 -- A bus from the bytes of a file (document 01): the declaration's answer, then placement, then power-on images.
-use Rattle.std.specs.Prelude.{ℕ, List, get_or}
+use Rattle.std.specs.Prelude.{ℕ, List, get_or, Ok, Err}
+use Rattle.refusal.specs.Refusal.{number_of}
 use Rattle.word.specs.Table.{table, filled}
 use Rattle.address.specs.Layout.{config_space_size, bar_count}
 use Rattle.address.specs.Limits.{Limits, function_room}
@@ -14,12 +15,9 @@ use Rattle.config.specs.PowerOn.{power_on_of}
 use Rattle.config.specs.Start.{power_on_state}
 use Rattle.config.specs.declared.function.Function.{Function}
 use Rattle.config.specs.declared.state.FunctionState.{FunctionState}
-use Rattle.placement.specs.Answer.{placement_of}
+use Rattle.placement.specs.Answer.{Placement, placement_of, addresses_given}
 use Rattle.placement.specs.declared.declared_bars.FunctionBars.{FunctionBars}
 use Rattle.placement.specs.declared.declared_bars.DeclaredBars.{DeclaredBars}
-use Rattle.placement.specs.declared.answer.Placement.{Placement}
-use Rattle.placement.specs.declared.answer.PlacementAnswer.{PlacementAnswer}
-use Rattle.placement.specs.declared.answer.PlacementAnswer.TheVariants as placement
 use Rattle.declaration.specs.Blank.{no_function}
 use Rattle.declaration.specs.Answer.{declared_by}
 use Rattle.declaration.specs.declared.answer.Declaration.{Declaration}
@@ -72,16 +70,20 @@ abbrev pub refused_start : ℕ → Place → Started
 refused_start number p = record { answer = answer.Refused number p; bus = empty_bus }
 
 -- "Then placement, 14 to 17", with device and slot
-abbrev pub placed_start : Declaration → List ℕ → PlacementAnswer → Started
-placed_start d addresses placement.Placed = record { answer = answer.Accepted; bus = bus_of d addresses }
-placed_start d addresses (placement.Refused number device s) = refused_start number (place.Index device s)
+abbrev pub placed_start : Declaration → Placement → Started
+placed_start d (Ok addresses) = record { answer = answer.Accepted; bus = bus_of d addresses }
+placed_start d (Err e) = refused_start (number_of e.refusal) (place.Index e.device e.slot)
 
 -- where placement puts the BARs of a declaration
 abbrev pub placement_in : Declaration → Placement
 placement_in d = placement_of d.aperture (declared_bars d)
 
+-- and the addresses that it gives them
+abbrev pub addresses_in : Declaration → List ℕ
+addresses_in d = addresses_given (placement_in d)
+
 unfoldable pub start_declared : Declaration → Started
-start_declared d = placed_start d (placement_in d).addresses (placement_in d).answer
+start_declared d = placed_start d (placement_in d)
 
 abbrev pub start_answered : Declaration → DeclarationAnswer → Started
 start_answered d answer.Accepted = start_declared d

@@ -13,7 +13,7 @@ use bar::{BarState, Plan};
 use capability::layout_capabilities;
 use config::{Function, FunctionState, PowerOn};
 use declaration::{Declaration, DeclarationAnswer, Place, read_declaration};
-use placement::{DeclaredBars, FunctionBars, KEY_COUNT, PlacementAnswer, resolve_bar_addresses};
+use placement::{DeclaredBars, FunctionBars, KEY_COUNT, resolve_bar_addresses};
 use std::array;
 
 // Accepted with the bus, or refused with number and place and the empty bus.
@@ -142,26 +142,19 @@ fn refused_start(number: u8, place: Place) -> Started
 fn start_declared(declaration: Declaration) -> Started
     ensures { result ≡ start_declared declaration }
 {
-    let placement = resolve_bar_addresses(declaration.aperture, declared_bars(declaration));
-    let answer = placement.answer;
-    let addresses = placement.addresses;
-    match answer {
-        PlacementAnswer::Placed => {
+    match resolve_bar_addresses(declaration.aperture, declared_bars(declaration)) {
+        Ok(addresses) => {
             let bus = bus_of(declaration, addresses);
             Started {
                 answer: DeclarationAnswer::Accepted,
                 bus,
             }
         }
-        PlacementAnswer::Refused {
-            number,
-            device,
-            slot,
-        } => refused_start(
-            number,
+        Err(refused) => refused_start(
+            refused.refusal.number(),
             Place::Index {
-                device,
-                index: slot as usize,
+                device: refused.device,
+                index: refused.slot as usize,
             },
         ),
     }

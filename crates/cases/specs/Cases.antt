@@ -69,7 +69,7 @@ answer (starts ns) = numbers_are (map (λ (p : PlacedCapability). p.offset.0) (t
 answer (body n) = refusal_is (capability_answer_number (capability_of 9 n))
 answer (effect_at o w) = touch_reply (touch_of p8_placed o w false)
 answer (written o w v) = reads (read_of (write_of plain o w v).state o w).answer
-answer (place aperture bars) = refusal_is (placement_number (placement_of aperture bars).answer)
+answer (place aperture bars) = refusal_is (placement_number (placement_of aperture bars))
 
 infixl 20 ◌gives◌
 pub data Case : Type 0 where

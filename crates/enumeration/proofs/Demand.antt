@@ -11,7 +11,7 @@ use Rattle.config.specs.State.{bar_at}
 use Rattle.declaration.specs.declared.answer.Declaration.{Declaration}
 use Rattle.bus.specs.Bus.{function_at, key_of}
 use Rattle.bus.specs.Sound.{Sound}
-use Rattle.bus.specs.Start.{declared_function, plan_at, placement_in}
+use Rattle.bus.specs.Start.{declared_function, plan_at, addresses_in}
 use Rattle.bus.specs.declared.state.Bus.{Bus}
 use Rattle.bus.proofs.LookupExact.{looked_lookup}
 use Rattle.bus.proofs.Outcomes.{start_accepted}
@@ -43,12 +43,12 @@ absence file a h device = absent_sound (declared file) (ran (started file) h) (h
 
 -- at the start and after a reset every BAR is as placement put it
 abbrev AsPlan : Declaration → Bus → ℕ → Type 0
-AsPlan d b k = (i : ℕ) → i < bar_count → bar_at (function_at b k).bars i ≡ fresh (plan_at (declared_function d k) (placement_in d).addresses k i)
+AsPlan d b k = (i : ℕ) → i < bar_count → bar_at (function_at b k).bars i ≡ fresh (plan_at (declared_function d k) (addresses_in d) k i)
 
 plan_quiet : (d : Declaration) (b : Bus) (k : ℕ) → AsPlan d b k → Quiet (function_at b k)
 plan_quiet d b k e i l z = ap (λ (r : BarState). r.probing) (e i l)
 
-plan_address : (d : Declaration) (b : Bus) (k : ℕ) → AsPlan d b k → (i : ℕ) → i < bar_count → address_in (function_at b k) i ≡ get_or (placement_in d).addresses (key_of k i) 0
+plan_address : (d : Declaration) (b : Bus) (k : ℕ) → AsPlan d b k → (i : ℕ) → i < bar_count → address_in (function_at b k) i ≡ get_or (addresses_in d) (key_of k i) 0
 plan_address d b k e i l = ap (λ (r : BarState). r.address) (e i l)
 
 -- two such buses give one report
@@ -61,7 +61,7 @@ plan_report d b c s t k h p q =
 start_plan : (file : List ℕ) → Accepted file → (k : ℕ) → k < (declared file).count → AsPlan (declared file) (started file) k
 start_plan file a k h i l =
     let d = declared file in
-    let at = (placement_in d).addresses in
+    let at = (addresses_in d) in
     rw ((start_accepted limits file a.answer).bus, bus_function d (accepted_start file a).sound.good at k h) (start_bar (declared_function d k) at k i l)
 
 reset_plan : (file : List ℕ) → Accepted file → (h : History) (k : ℕ) → k < (declared file).count → AsPlan (declared file) (ran (started file) (h ++ (resets ∷ []))) k

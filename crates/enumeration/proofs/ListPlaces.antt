@@ -35,7 +35,7 @@ use Rattle.config.proofs.Slots.{bar_after}
 use Rattle.declaration.specs.declared.answer.Declaration.{Declaration}
 use Rattle.bus.specs.Bus.{function_at}
 use Rattle.bus.specs.Sound.{Sound}
-use Rattle.bus.specs.Start.{declared_function, bars_placed, placement_in}
+use Rattle.bus.specs.Start.{declared_function, bars_placed, addresses_in}
 use Rattle.bus.specs.declared.state.Bus.{Bus}
 use Rattle.bus.proofs.SoundDeclared.{declared_power_on, sound_apart, sound_constant}
 use Rattle.bus.proofs.SoundParts.{sound_admitted, sound_placed}
@@ -56,7 +56,7 @@ module _ (d : Declaration) (b : Bus) (s : Sound d b) (k : ℕ) (h : k < d.count)
   laid = placed_of its.capabilities
 
   abbrev bars : List BarState
-  bars = bars_placed its (placement_in d).addresses k
+  bars = bars_placed its (addresses_in d) k
 
   abbrev image : List ℕ
   image = (declared_power_on d k).image

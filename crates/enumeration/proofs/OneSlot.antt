@@ -36,7 +36,7 @@ use Rattle.declaration.specs.declared.answer.Declaration.{Declaration}
 use Rattle.bus.specs.Access.{accepts, written_on, bus_write_of}
 use Rattle.bus.specs.Bus.{no_function_state, function_at, with_function}
 use Rattle.bus.specs.Sound.{started_function, SoundFunction, Sound}
-use Rattle.bus.specs.Start.{declared_function, plan_at, bars_placed, placement_in}
+use Rattle.bus.specs.Start.{declared_function, plan_at, bars_placed, addresses_in}
 use Rattle.bus.specs.declared.state.Bus.{Bus}
 use Rattle.bus.specs.declared.write_access.BusWriteDone.{BusWriteDone}
 use Rattle.bus.proofs.Devices.{sound_read, sound_written}
@@ -88,7 +88,7 @@ module _ (d : Declaration) (b : Bus) (s : Sound d b) (k : ℕ) (h : k < d.count)
   -- with no BAR its register reads zero, and a write to it stores nothing
   module _ (z : bar.plan.size ≡ 0) where
     abbrev bars : List BarState
-    bars = bars_placed its (placement_in d).addresses k
+    bars = bars_placed its (addresses_in d) k
 
     abbrev laid : Placed
     laid = placed_of its.capabilities
@@ -98,7 +98,7 @@ module _ (d : Declaration) (b : Bus) (s : Sound d b) (k : ℕ) (h : k < d.count)
 
     placed_empty : (bar_at bars i).plan.size ≡ 0
     unfolding bars_placed
-    placed_empty = rw (get_or_table bar_count (λ i. fresh (plan_at its (placement_in d).addresses k i)) i no_state l) (sym size_declared ∙ z)
+    placed_empty = rw (get_or_table bar_count (λ i. fresh (plan_at its (addresses_in d) k i)) i no_state l) (sym size_declared ∙ z)
 
     read_only : (n : ℕ) → n < 4 → get_or (declared_power_on d k).mask (register_at i + n) 0 ≡ 0
     read_only n m = register_unmasked config_space_size its.contents bars laid (sound_admitted d b s k h) i (register_at i + n) l (omega arith) (omega arith)

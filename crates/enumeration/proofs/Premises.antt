@@ -32,11 +32,10 @@ use Rattle.config.specs.Read.{register_bytes, read_good, read_of}
 use Rattle.config.specs.Space.{space_of}
 use Rattle.config.specs.State.{in_bar}
 use Rattle.config.specs.Write.{store_of, bar_step, write_good, write_of}
-use Rattle.placement.specs.Answer.{all_placed}
+use Rattle.std.specs.Prelude.{Some, Ok}
 use Rattle.placement.specs.Examples.{one_automatic}
 use Rattle.placement.specs.Keys.{key_count, slot_bar, declared_at, bars_of}
 use Rattle.placement.specs.Place.{no_range, Lowest, meets_any, is_place}
-use Rattle.placement.specs.declared.search.Fit.TheVariants as fit
 use Rattle.placement.proofs.OneAutomatic.{one_placed}
 use Rattle.placement.proofs.Places.{no_place_lem}
 use Rattle.placement.proofs.SameBars.{same_bars}
@@ -86,14 +85,14 @@ unfolding declared_by declared_from checked_whole read_fields read_field frame_o
 said = record { answer = refl; aperture = refl; count = refl; device = refl; bars = refl }
 
 -- the start of the aperture is the lowest place
-lowest : Lowest aperture 0x1000 (replicate key_count no_range) (fit.At 0xffff0000)
+lowest : Lowest aperture 0x1000 (replicate key_count no_range) (Some 0xffff0000)
 unfolding is_place meets_any any_below multiple lies_in meets overlap
 lowest = (
   refl,
   λ b h. no_place_lem aperture 0x1000 (replicate key_count no_range) b (λ p. omega (arith, lies_from aperture (range b 0x1000) p.within)),
 )
 
-placed : placement_in declaration ≡ all_placed addresses
+placed : placement_in declaration ≡ Ok addresses
 placed = rw said.aperture (same_bars aperture (declared_bars declaration) (one_automatic 0x1000) addresses said.bars (one_placed aperture 0xffff0000 lowest))
 
 start : start_of limits file ≡ record { answer = answer.Accepted; bus = bus_of declaration addresses }

@@ -20,7 +20,7 @@ use Rattle.bus.specs.Bus.{function_at, key_of}
 use Rattle.bus.specs.Held.{Looked}
 use Rattle.bus.specs.Lookup.{most_lookup, decodes, lookup_of}
 use Rattle.bus.specs.Outcome.{declaration_of}
-use Rattle.bus.specs.Start.{declared_function, placement_in, start_of}
+use Rattle.bus.specs.Start.{declared_function, addresses_in, start_of}
 use Rattle.bus.specs.declared.memory_lookup.LookupAnswer.{LookupAnswer}
 use Rattle.bus.specs.declared.memory_lookup.LookupAnswer.TheVariants as lookup
 use Rattle.bus.specs.declared.state.Bus.{Bus}
@@ -122,7 +122,7 @@ Absence = (file : List ℕ) → Accepted file → (h : History) (device : ℕ) �
 
 -- after a reset with no later access every BAR is where placement put it, and the report is that of the start
 pub record AsPlaced (file : List ℕ) (h : History) (k : ℕ) : Type 0 where
-  pub address : (i : ℕ) → i < bar_count → address_in (function_at (ran (started file) (h ++ (resets ∷ []))) k) i ≡ get_or (placement_in (declared file)).addresses (key_of k i) 0
+  pub address : (i : ℕ) → i < bar_count → address_in (function_at (ran (started file) (h ++ (resets ∷ []))) k) i ≡ get_or (addresses_in (declared file)) (key_of k i) 0
   pub report : (enumerate_of (ran (started file) (h ++ (resets ∷ []))) (declared_function (declared file) k).device).report ≡ (enumerate_of (started file) (declared_function (declared file) k).device).report
 
 abbrev pub Restoration : Type 0

@@ -1,5 +1,5 @@
 -- Placement in numbers: the BARs that they declare, and what is answered.
-use Rattle.std.specs.Prelude.{ℕ, ◌+◌, ◌*◌, Bool, false, cond, List, get_or}
+use Rattle.std.specs.Prelude.{ℕ, ◌+◌, ◌*◌, Bool, false, cond, List, get_or, Ok, Err}
 use Rattle.word.specs.Table.{table}
 use Rattle.address.specs.Layout.{bar_count}
 use Rattle.address.specs.Kinds.{slot}
@@ -10,12 +10,11 @@ use Rattle.bar.specs.declared.memory_bar.MemoryBar.{MemoryBar}
 use Rattle.bar.specs.declared.memory_bar.BarAnswer.{BarAnswer}
 use Rattle.bar.specs.declared.memory_bar.BarAnswer.TheVariants.{Good, Bad}
 use Rattle.address.specs.Limits.{function_room}
-use Rattle.placement.specs.Answer.{placement_number, placement_of}
+use Rattle.refusal.specs.Number.{accepted}
+use Rattle.refusal.specs.Refusal.{number_of}
+use Rattle.placement.specs.Answer.{Placement, placement_of, addresses_given}
 use Rattle.placement.specs.declared.declared_bars.FunctionBars.{FunctionBars}
 use Rattle.placement.specs.declared.declared_bars.DeclaredBars.{DeclaredBars}
-use Rattle.placement.specs.declared.answer.Placement.{Placement}
-use Rattle.placement.specs.declared.answer.PlacementAnswer.{PlacementAnswer}
-use Rattle.placement.specs.declared.answer.PlacementAnswer.TheVariants.{Placed, Refused}
 use Rattle.harness.specs.declared.places.PlaceNumbers.{PlaceNumbers}
 use Rattle.harness.specs.declared.places.PlacedOut.{PlacedOut}
 
@@ -49,15 +48,10 @@ functions_in n = table function_room (function_in n)
 abbrev pub declared_bars : PlaceNumbers → DeclaredBars
 declared_bars n = record { count = n.count; functions = functions_in n }
 
--- document 01's number, and the device and slot that it is given for, 0 where nothing is refused
-abbrev pub answer_out : PlacementAnswer → List ℕ → PlacedOut
-answer_out Placed addresses = record { refusal = placement_number Placed; device = 0; slot = 0; addresses = addresses }
-answer_out (Refused number device s) addresses =
-    record { refusal = placement_number (Refused number device s); device = device; slot = s; addresses = addresses }
-
--- what is told of a placement: the answer, and the address of each key
+-- what is told of a placement: document 01's number, the device and slot that it is given for, 0 where nothing is refused, and the address of each key, 0 where it is refused
 abbrev pub placed_out : Placement → PlacedOut
-placed_out p = answer_out p.answer p.addresses
+placed_out (Ok addresses) = record { refusal = accepted; device = 0; slot = 0; addresses = addresses }
+placed_out (Err e) = record { refusal = number_of e.refusal; device = e.device; slot = e.slot; addresses = addresses_given (Err e) }
 
 -- the placement of what the numbers declare
 unfoldable pub place_of : PlaceNumbers → PlacedOut

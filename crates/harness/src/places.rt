@@ -8,9 +8,8 @@ ghost use Rattle.harness.specs.Places.{request_of, bar_in, slots_in, function_in
 use address::limits::{BAR_SLOTS, FUNCTION_LIMIT};
 use address::{Slot, SlotAnswer};
 use bar::{Aperture, BarAnswer, MemoryBar, Request};
-use placement::{
-    DeclaredBars, FunctionBars, KEY_COUNT, Placement, PlacementAnswer, resolve_bar_addresses,
-};
+use placement::{DeclaredBars, FunctionBars, KEY_COUNT, PlacementRefusal, resolve_bar_addresses};
+use refusal::ACCEPTED;
 
 // The aperture, and the BARs of `count` functions: place `i * 6 + slot` of an array is that slot of function i, and a size of 0 is no BAR.
 #[repr(C)]
@@ -111,28 +110,21 @@ fn functions_in(request: PlaceNumbers) -> [FunctionBars; FUNCTION_LIMIT]
     functions
 }
 
-fn placed_out(placement: Placement) -> PlacedOut
+fn placed_out(placement: Result<[u64; KEY_COUNT], PlacementRefusal>) -> PlacedOut
     ensures { result ≡ placed_out placement }
 {
-    let answer = placement.answer;
-    let addresses = placement.addresses;
-    let refusal = answer.number();
-    match answer {
-        PlacementAnswer::Placed => PlacedOut {
-            refusal,
+    match placement {
+        Ok(addresses) => PlacedOut {
+            refusal: ACCEPTED,
             device: 0,
             slot: 0,
             addresses,
         },
-        PlacementAnswer::Refused {
-            number: _,
-            device,
-            slot,
-        } => PlacedOut {
-            refusal,
-            device,
-            slot,
-            addresses,
+        Err(refused) => PlacedOut {
+            refusal: refused.refusal.number(),
+            device: refused.device,
+            slot: refused.slot,
+            addresses: [0u64; KEY_COUNT],
         },
     }
 }

@@ -6,6 +6,7 @@ use mathlib.Core.Logic.{⊎_elim}
 use mathlib.Core.Path.{◌≡◌, ◌∙◌}
 use native.Mathlib.Omega.{arith}
 use lib.ListN.{get_or}
+use Rattle.std.specs.Prelude.{Some, Ok}
 use Rattle.word.proofs.Tests.{below_or_not}
 use Rattle.word.proofs.Tables.{get_or_table}
 use Rattle.bar.specs.Range.{four_gib, meets}
@@ -24,8 +25,6 @@ use Rattle.placement.specs.Order.{size_at, request_at, precedes, range_at, place
 use Rattle.placement.specs.Answer.{placement_of}
 use Rattle.placement.specs.Outcome.{AllGiven, Resolved}
 use Rattle.placement.specs.declared.declared_bars.DeclaredBars.{DeclaredBars}
-use Rattle.placement.specs.declared.search.Fit.TheVariants.{At}
-use Rattle.placement.specs.declared.answer.PlacementAnswer.TheVariants as answer
 use Rattle.placement.proofs.Places.{place_is, place_end}
 use Rattle.placement.proofs.Orders.{one_precedes}
 use Rattle.placement.proofs.Rules.{by_request}
@@ -81,24 +80,21 @@ module _ (aperture : Aperture) (bars : List MemoryBar) (addresses : List ℕ) (a
       (λ e. omega (arith, place_end aperture (size_at bars k) (placed_before bars addresses k) (get_or addresses k 0) (fixed_place k e.0 h e.1)))
       (by_request (request_at bars k))
 
-module _ (aperture : Aperture) (d : DeclaredBars) (e : (placement_of aperture d).answer ≡ answer.Placed) where
+module _ (aperture : Aperture) (d : DeclaredBars) (addresses : List ℕ) (e : placement_of aperture d ≡ Ok addresses) where
   abbrev bars : List MemoryBar
   bars = bars_of d
 
-  abbrev addresses : List ℕ
-  addresses = (placement_of aperture d).addresses
-
   pub placement_resolved : Resolved aperture bars addresses
-  placement_resolved = accepted_resolved aperture bars addresses (when_accepted aperture d e)
+  placement_resolved = accepted_resolved aperture bars addresses (when_accepted aperture d addresses e)
 
   -- an automatic BAR has the lowest place that those placed before it leave
-  pub automatic_lowest : (k : ℕ) → k < key_count → request_at bars k ≡ Auto → 0 < size_at bars k → Lowest aperture (size_at bars k) (placed_before bars addresses k) (At (get_or addresses k 0))
-  automatic_lowest k h f z = ((when_accepted aperture d e).given k h).automatic f z
+  pub automatic_lowest : (k : ℕ) → k < key_count → request_at bars k ≡ Auto → 0 < size_at bars k → Lowest aperture (size_at bars k) (placed_before bars addresses k) (Some (get_or addresses k 0))
+  automatic_lowest k h f z = ((when_accepted aperture d addresses e).given k h).automatic f z
 
   -- in an aperture that ends at 4 GiB at most, so does every BAR
   module _ (h : aperture.end ≤ four_gib) (k : ℕ) (l : k < key_count) where
     pub placement_end : get_or addresses k 0 + size_at bars k ≤ four_gib
-    placement_end = accepted_end aperture bars addresses (when_accepted aperture d e) k four_gib l h
+    placement_end = accepted_end aperture bars addresses (when_accepted aperture d addresses e) k four_gib l h
 
     pub placement_bounded : 0 < size_at bars k → (p : Plan) → p.address ≡ get_or addresses k 0 → Bounded (fresh p)
     placement_bounded z p q = fresh_bounded p (omega (arith, placement_end))

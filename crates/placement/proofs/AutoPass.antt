@@ -19,9 +19,8 @@ use Rattle.bar.specs.declared.memory_bar.Request.TheVariants.{Auto, Fixed}
 use Rattle.placement.specs.Keys.{key_count}
 use Rattle.placement.specs.Place.{no_range}
 use Rattle.placement.specs.Order.{size_at, request_at, comes_before, precedes}
-use Rattle.placement.specs.Passes.{is_auto, waits, auto_after}
+use Rattle.placement.specs.Passes.{is_auto, waits, auto_step, auto_after}
 use Rattle.placement.specs.Rule.{Given}
-use Rattle.placement.specs.declared.placing.Placing.{Placing}
 use Rattle.placement.proofs.Counts.{counted, counted_less, counted_most, counted_has}
 use Rattle.placement.proofs.Orders.{before_is, not_both_before, fixed_first, among_auto, precedes_other}
 use Rattle.placement.proofs.Waits.{waits_auto, waits_size, waits_empty, is_waiting, waits_same}
@@ -30,7 +29,7 @@ use Rattle.placement.proofs.Largests.{none_waits}
 use Rattle.placement.proofs.Rules.{by_request}
 use Rattle.placement.proofs.Cases.{auto_cases}
 use Rattle.placement.proofs.Sounds.{Sound, sound_same, turn_refused, turn_given}
-use Rattle.placement.proofs.FixedPass.{Kept, kept_going, kept_refused, fixed_below, below_auto, below_fixed}
+use Rattle.placement.proofs.FixedPass.{Kept, kept_onward, fixed_below, below_auto, below_fixed}
 
 module _ (aperture : Aperture) (bars : List MemoryBar) where
   -- a fixed BAR is done, and an automatic one that has a range
@@ -127,17 +126,17 @@ module _ (aperture : Aperture) (bars : List MemoryBar) where
             left = ⊎_elim (λ (q : counted (waits bars placed) key_count + n ≤ key_count). inl (omega (arith, counted_less (waits bars placed) (waits bars after) (λ k w. (waits_other k w).1) x key_count h f.here waits_here))) (λ q. absurd (both f.here (q x h))) a.left;
           }
 
-  pub auto_kept : (s : Placing) (n : ℕ) → Kept aperture bars (Ahead 0) s → Kept aperture bars (Ahead n) (auto_after aperture bars s n)
+  pub auto_kept : (placed : List Range) (n : ℕ) → Ahead 0 placed → Kept aperture bars (Ahead n) (auto_after aperture bars placed n)
   unfolding auto_after
-  auto_kept s zero i = i
-  auto_kept s (suc n) i =
-      let t = auto_after aperture bars s n in
-      let j = auto_kept s n i in
-      let X = Ahead (suc n) in
-      auto_cases aperture bars t (Kept aperture bars X)
-      (λ e. (λ v. record { sound = (j.0 v).sound; ahead = (j.0 v).ahead; left = inr (none_waits bars t.placed (e v)) }, j.1))
-      (λ x a v h f g. kept_going aperture bars X _ (ahead_more n x t.placed h f (j.0 v) a g))
-      (λ x v h f r. kept_refused aperture bars X t.placed _ x (turn_refused aperture bars x t.placed h (next_sound n x t.placed h f (j.0 v)) _ r))
+  auto_kept placed zero a = a
+  auto_kept placed (suc n) a =
+      let Y = Ahead (suc n) in
+      kept_onward aperture bars (Ahead n) Y (auto_step aperture bars) (auto_after aperture bars placed n) (auto_kept placed n a)
+      (λ now b.
+      auto_cases aperture bars now (Kept aperture bars Y)
+      (λ e. record { sound = b.sound; ahead = b.ahead; left = inr (none_waits bars now e) })
+      (λ x address h f g. ahead_more n x now h f b address g)
+      (λ x h f r. turn_refused aperture bars x now h (next_sound n x now h f b) _ r))
 
   -- after as many turns as there are keys nothing waits
   pub all_done : (placed : List Range) → Ahead key_count placed → (k : ℕ) → k < key_count → waits bars placed k ≡ false

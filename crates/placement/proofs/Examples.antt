@@ -5,7 +5,8 @@ use mathlib.Core.List.{List}
 use mathlib.Core.Path.{◌≡◌, refl, ◌∙◌}
 use native.Mathlib.Omega.{arith}
 use lib.ListN.{get_or, set, replicate}
-use Rattle.refusal.specs.Number.{not_multiple, outside_aperture, overlaps_placed, no_place}
+use Rattle.std.specs.Prelude.{Some, None, Ok, Err}
+use Rattle.refusal.specs.declared.refusal.Refusal.TheVariants.{NotMultiple, OutsideAperture, OverlapsPlaced, NoPlace}
 use Rattle.bar.specs.Range.{range, multiple, lies_in, meets}
 use Rattle.bar.specs.declared.range.Range.{Range}
 use Rattle.bar.proofs.Ranges.{multiple_zero, lies_from, lies_end, meeting_meets}
@@ -17,34 +18,31 @@ use Rattle.placement.specs.Keys.{key_count}
 use Rattle.placement.specs.Place.{no_range, meets_any, is_place, Lowest}
 use Rattle.placement.specs.Keys.{slot_bar, declared_at, bars_of}
 use Rattle.placement.specs.Order.{comes_before}
-use Rattle.placement.specs.Passes.{placing, nothing_yet, fixed_verdict, fixed_step, fixed_after, waits, is_next, next_of, auto_after}
-use Rattle.placement.specs.Answer.{addresses_of, all_placed, refused_by, placement_of}
+use Rattle.placement.specs.Passes.{refused_key, nothing_yet, fixed_verdict, fixed_step, fixed_after, waits, is_next, next_of, auto_after}
+use Rattle.placement.specs.Answer.{addresses_of, refused_by, placement_of}
 use Rattle.placement.specs.Examples.{p9_aperture, one_automatic, run_aperture, run_bars, run_addresses, two_fixed, asked, told}
-use Rattle.placement.specs.declared.search.Fit.TheVariants as fit
-use Rattle.placement.specs.declared.automatic.Next.TheVariants as next
-use Rattle.placement.specs.declared.placing.Verdict.TheVariants.{Going, Refused}
 use Rattle.placement.proofs.Places.{place_is, no_place_lem}
 use Rattle.placement.proofs.Runs.{run_done, run_placed, run_refused, answer_from, answer_stopped}
 
 -- P9: the aperture is as long as the BAR, and no multiple lies in it
-pub p9_none : (placed : List Range) → Lowest p9_aperture 0x1000 placed fit.Nothing
+pub p9_none : (placed : List Range) → Lowest p9_aperture 0x1000 placed None
 p9_none placed b =
     no_place_lem p9_aperture 0x1000 placed b (λ p. omega (arith, multiple_zero (range b 0x1000) p.aligned, lies_from p9_aperture (range b 0x1000) p.within, lies_end p9_aperture (range b 0x1000) p.within))
 
-p9_next : next_of (bars_of (one_automatic 0x1000)) (replicate key_count no_range) ≡ next.At 2
+p9_next : next_of (bars_of (one_automatic 0x1000)) (replicate key_count no_range) ≡ Some 2
 unfolding next_of is_next waits comes_before first_of first_below any_below bars_of table declared_at slot_bar
 p9_next = refl
 
-p9_fixed : fixed_after p9_aperture (bars_of (one_automatic 0x1000)) key_count ≡ nothing_yet
+p9_fixed : fixed_after p9_aperture (bars_of (one_automatic 0x1000)) key_count ≡ Ok nothing_yet
 unfolding fixed_after fixed_step bars_of table declared_at slot_bar first_of first_below
 p9_fixed = refl
 
-p9_auto : auto_after p9_aperture (bars_of (one_automatic 0x1000)) nothing_yet key_count ≡ placing (Refused no_place 2) (replicate key_count no_range)
+p9_auto : auto_after p9_aperture (bars_of (one_automatic 0x1000)) nothing_yet key_count ≡ Err (refused_key NoPlace 2)
 unfolding bars_of table declared_at slot_bar first_of first_below
 p9_auto = run_refused p9_aperture (bars_of (one_automatic 0x1000)) (replicate key_count no_range) 47 2 p9_next (p9_none (replicate key_count no_range))
 
-pub p9 : placement_of p9_aperture (one_automatic 0x1000) ≡ refused_by no_place 7 2
-p9 = answer_from p9_aperture (one_automatic 0x1000) nothing_yet (placing (Refused no_place 2) (replicate key_count no_range)) p9_fixed p9_auto
+pub p9 : placement_of p9_aperture (one_automatic 0x1000) ≡ Err (refused_by NoPlace 7 2)
+p9 = answer_from p9_aperture (one_automatic 0x1000) nothing_yet (Err (refused_key NoPlace 2)) p9_fixed p9_auto
 
 -- the Run case: the fixed BAR first, then the larger of the two automatic ones
 abbrev run1 : List Range
@@ -62,7 +60,7 @@ run_below placed size b e f z =
     no_place_lem run_aperture size placed b (λ p.
     both (meeting_meets (range b size) (range 0x80000000 0x1000) (record { first_full = z; second_full = omega arith; first_starts = omega arith; second_starts = omega arith })) (rw f at (p.free 1)))
 
-run_large : Lowest run_aperture 0x4000 run1 (fit.At 0x80004000)
+run_large : Lowest run_aperture 0x4000 run1 (Some 0x80004000)
 unfolding is_place meets_any any_below multiple lies_in meets overlap
 run_large = (
   refl,
@@ -71,7 +69,7 @@ run_large = (
       both t (run_below run1 0x4000 b (omega (arith, multiple_zero (range b 0x4000) p.aligned, lies_from run_aperture (range b 0x4000) p.within)) refl (omega arith))),
 )
 
-run_small : Lowest run_aperture 0x1000 run2 (fit.At 0x80001000)
+run_small : Lowest run_aperture 0x1000 run2 (Some 0x80001000)
 unfolding is_place meets_any any_below multiple lies_in meets overlap
 run_small = (
   refl,
@@ -80,30 +78,27 @@ run_small = (
       both t (run_below run2 0x1000 b (omega (arith, multiple_zero (range b 0x1000) p.aligned, lies_from run_aperture (range b 0x1000) p.within)) refl (omega arith))),
 )
 
-run_fixed : fixed_after run_aperture (bars_of run_bars) key_count ≡ placing Going run1
+run_fixed : fixed_after run_aperture (bars_of run_bars) key_count ≡ Ok run1
 unfolding fixed_after fixed_step fixed_verdict is_place meets_any any_below multiple lies_in meets overlap bars_of table declared_at slot_bar first_of first_below
 run_fixed = refl
 
-run_nexts : (next_of (bars_of run_bars) run1 ≡ next.At 6) × (next_of (bars_of run_bars) run2 ≡ next.At 0) × (next_of (bars_of run_bars) run3 ≡ next.Nothing)
+run_nexts : (next_of (bars_of run_bars) run1 ≡ Some 6) × (next_of (bars_of run_bars) run2 ≡ Some 0) × (next_of (bars_of run_bars) run3 ≡ None)
 unfolding next_of is_next waits comes_before first_of first_below any_below bars_of table declared_at slot_bar
 run_nexts = (refl, refl, refl)
 
-run_auto : auto_after run_aperture (bars_of run_bars) (placing Going run1) key_count ≡ placing Going run3
+run_auto : auto_after run_aperture (bars_of run_bars) run1 key_count ≡ Ok run3
 unfolding bars_of table declared_at slot_bar first_of first_below
 run_auto =
     run_placed run_aperture (bars_of run_bars) run1 47 6 0x80004000 run_nexts.0 run_large ∙
     run_placed run_aperture (bars_of run_bars) run2 46 0 0x80001000 run_nexts.1 run_small ∙
     run_done run_aperture (bars_of run_bars) run3 46 run_nexts.2
 
-pub run : placement_of run_aperture run_bars ≡ all_placed run_addresses
+pub run : placement_of run_aperture run_bars ≡ Ok run_addresses
 unfolding addresses_of table
-run = answer_from run_aperture run_bars (placing Going run1) (placing Going run3) run_fixed run_auto
+run = answer_from run_aperture run_bars run1 (Ok run3) run_fixed run_auto
 
 -- one refusal each of 14, 15 (the range ends at 2 ^ 64) and 16
-abbrev two1 : List Range
-two1 = set (replicate key_count no_range) 0 (range 0x80000000 0x4000)
-
-fixed_refusals : (fixed_after run_aperture (bars_of (two_fixed 0x80008010)) key_count ≡ placing (Refused not_multiple 1) two1) × (fixed_after run_aperture (bars_of (two_fixed 0xfffffffffffff000)) key_count ≡ placing (Refused outside_aperture 1) two1) × (fixed_after run_aperture (bars_of (two_fixed 0x80003000)) key_count ≡ placing (Refused overlaps_placed 1) two1)
+fixed_refusals : (fixed_after run_aperture (bars_of (two_fixed 0x80008010)) key_count ≡ Err (refused_key NotMultiple 1)) × (fixed_after run_aperture (bars_of (two_fixed 0xfffffffffffff000)) key_count ≡ Err (refused_key OutsideAperture 1)) × (fixed_after run_aperture (bars_of (two_fixed 0x80003000)) key_count ≡ Err (refused_key OverlapsPlaced 1))
 unfolding fixed_after fixed_step fixed_verdict is_place meets_any any_below multiple lies_in meets overlap bars_of table declared_at slot_bar first_of first_below
 fixed_refusals = (refl, refl, refl)
 
@@ -111,4 +106,4 @@ fixed_refusals = (refl, refl, refl)
 pub examples : asked ≡ told
 unfolding asked told
 examples =
-    rw (p9, run, answer_stopped run_aperture (two_fixed 0x80008010) two1 not_multiple 1 fixed_refusals.0, answer_stopped run_aperture (two_fixed 0xfffffffffffff000) two1 outside_aperture 1 fixed_refusals.1, answer_stopped run_aperture (two_fixed 0x80003000) two1 overlaps_placed 1 fixed_refusals.2)
+    rw (p9, run, answer_stopped run_aperture (two_fixed 0x80008010) (refused_key NotMultiple 1) fixed_refusals.0, answer_stopped run_aperture (two_fixed 0xfffffffffffff000) (refused_key OutsideAperture 1) fixed_refusals.1, answer_stopped run_aperture (two_fixed 0x80003000) (refused_key OverlapsPlaced 1) fixed_refusals.2)

@@ -1,99 +1,81 @@
 -- The largest that waits, found key by key, is the next one.
 use Prim.Native.Nat.{ℕ, zero, suc, ◌<◌, ◌≤◌}
-use mathlib.Core.Bool.{Bool, true, false, ◌&&◌, cond}
+use mathlib.Core.Bool.{true, false}
 use mathlib.Core.List.{List}
 use mathlib.Core.Logic.{⊎_elim}
-use mathlib.Core.Path.{◌≡◌, refl}
+use mathlib.Core.Path.{◌≡◌, sym, subst, ◌∙◌}
 use native.Mathlib.Omega.{arith}
-use borrow.Author.Tests.{lt-ltb, ltb-true, ltb-false, eq-eqb, ne_eqb}
-use lib.Dec.{ltb}
-use lib.ListN.{get_or}
-use Rattle.word.proofs.Tests.{below_or_not, true_or_false, never}
+use Rattle.std.specs.Prelude.{Option, Some, None}
+use Rattle.word.proofs.Tests.{below_or_not, same_or_not, true_or_false, both}
 use Rattle.bar.specs.declared.range.Range.{Range}
 use Rattle.bar.specs.declared.memory_bar.MemoryBar.{MemoryBar}
-use Rattle.bar.specs.declared.memory_bar.Request.TheVariants.{Auto, Fixed}
 use Rattle.placement.specs.Keys.{key_count}
-use Rattle.placement.specs.Place.{no_range}
-use Rattle.placement.specs.Order.{size_at, request_at}
+use Rattle.placement.specs.Order.{size_at, comes_before}
 use Rattle.placement.specs.Passes.{waits, next_of}
-use Rattle.placement.specs.Largest.{waiting, waiting_at, largest_in}
-use Rattle.placement.specs.declared.automatic.Next.TheVariants.{At, Nothing}
-use Rattle.placement.specs.declared.waiting.Waiting.{Waiting}
 use Rattle.placement.proofs.Nexts.{next_at, next_none}
-use Rattle.placement.proofs.Orders.{larger_before, equal_before}
-use Rattle.placement.proofs.Waits.{waits_size}
+use Rattle.placement.proofs.Orders.{larger_before, equal_before, before_on}
 
 module _ (bars : List MemoryBar) (placed : List Range) where
-  -- the size that waits at a key
-  abbrev pub waiting_size : ℕ → ℕ
-  waiting_size key = cond (waits bars placed key) (size_at bars key) 0
+  -- the first one among the keys below n, or none where none of these waits
+  pub record FirstBelow (n x : ℕ) : Type 0 where
+    pub below : x < n
+    pub here : waits bars placed x ≡ true
+    pub first : (y : ℕ) → y < n → waits bars placed y ≡ true → (y ≡ x → ⊥) → comes_before bars x y ≡ true
 
-  -- by the request, and by what the key has
-  pub waiting_fixed : (key a : ℕ) → request_at bars key ≡ Fixed a → waiting_at bars placed key ≡ waiting key 0
-  unfolding waiting_at waits
-  waiting_fixed key a e = rw e
+  abbrev pub Known : ℕ → Option ℕ → Type 0
+  Known n None = (y : ℕ) → y < n → waits bars placed y ≡ false
+  Known n (Some x) = FirstBelow n x
 
-  pub waiting_placed : (key : ℕ) → request_at bars key ≡ Auto → ((get_or placed key no_range).size ≡ 0 → ⊥) → waiting_at bars placed key ≡ waiting key 0
-  unfolding waiting_at waits
-  waiting_placed key e h = rw (e, ne_eqb (get_or placed key no_range).size 0 h) (by_size (ltb 0 (size_at bars key)))
-    where
-      by_size : (t : Bool) → waiting key (cond (t && false) (size_at bars key) 0) ≡ waiting key 0
-      by_size true = refl
-      by_size false = refl
+  -- a key that does not wait changes nothing
+  idle_none : (n : ℕ) → Known n None → waits bars placed n ≡ false → Known (suc n) None
+  idle_none n k e y h = ⊎_elim (λ (l : y < n). k y l) (λ (l : n ≤ y). let q : y ≡ n = omega arith in rw q e) (below_or_not y n)
 
-  pub waiting_auto : (key : ℕ) → request_at bars key ≡ Auto → (get_or placed key no_range).size ≡ 0 → waiting_at bars placed key ≡ waiting key (size_at bars key)
-  unfolding waiting_at waits
-  waiting_auto key e f =
-      rw (e, eq-eqb (get_or placed key no_range).size 0 f)
-      (⊎_elim (λ (h : 0 < size_at bars key). rw (lt-ltb 0 (size_at bars key) h)) (λ (h : size_at bars key ≤ 0). let z : size_at bars key ≡ 0 = omega arith in rw z) (below_or_not 0 (size_at bars key)))
+  idle_some : (n x : ℕ) → FirstBelow n x → waits bars placed n ≡ false → FirstBelow (suc n) x
+  idle_some n x k e =
+      record { below = omega (arith, k.below); here = k.here; first = λ y h w d. ⊎_elim (λ (l : y < n). k.first y l w d) (λ (l : n ≤ y). let q : y ≡ n = omega arith in absurd (both w (rw q e))) (below_or_not y n) }
 
-  -- what is known of the largest of the first n
-  record Largest (n : ℕ) (w : Waiting) : Type 0 where
-    most : (y : ℕ) → y < n → waiting_size y ≤ w.size
-    lowest : (y : ℕ) → y < w.key → waiting_size y < w.size
-    there : 0 < w.size → (w.key < n) × (waiting_size w.key ≡ w.size)
+  pub known_idle : (n : ℕ) (k : Option ℕ) → Known n k → waits bars placed n ≡ false → Known (suc n) k
+  known_idle n None k e = idle_none n k e
+  known_idle n (Some x) k e = idle_some n x k e
 
-  by_test : (n : ℕ) (w : Waiting) → Largest n w → (t : Bool) → ltb w.size (waiting_size n) ≡ t → Largest (suc n) (cond t (waiting n (waiting_size n)) w)
-  by_test n w l true e =
-      let h = ltb-true w.size (waiting_size n) e in
-      record { most = λ y k. ⊎_elim (λ (q : y < n). omega (arith, h, l.most y q)) (λ (q : n ≤ y). let s : y ≡ n = omega arith in rw s (omega arith)) (below_or_not y n); lowest = λ y k. omega (arith, h, l.most y k); there = λ k. (omega arith, refl) }
-  by_test n w l false e =
-      let h = ltb-false w.size (waiting_size n) e in
-      record { most = λ y k. ⊎_elim (λ (q : y < n). l.most y q) (λ (q : n ≤ y). let s : y ≡ n = omega arith in rw s h) (below_or_not y n); lowest = l.lowest; there = λ k. let r = l.there k in (omega (arith, r.0), r.1) }
+  -- one that waits is the first one where none was known
+  pub known_first : (n : ℕ) → Known n None → waits bars placed n ≡ true → Known (suc n) (Some n)
+  known_first n k e =
+      record { below = omega arith; here = e; first = λ y h w d. ⊎_elim (λ (l : y < n). absurd (both w (k y l))) (λ (l : n ≤ y). absurd (d (omega arith))) (below_or_not y n) }
 
-  largest_is : (n : ℕ) → Largest n (largest_in bars placed n)
-  unfolding largest_in waiting_at
-  largest_is zero = record { most = λ y k. absurd (omega arith); lowest = λ y k. absurd (omega arith); there = λ k. absurd (omega arith) }
-  largest_is (suc n) = by_test n (largest_in bars placed n) (largest_is n) (ltb (largest_in bars placed n).size (waiting_size n)) refl
+  -- and where it is larger
+  pub known_larger : (n x : ℕ) → Known n (Some x) → waits bars placed n ≡ true → size_at bars x < size_at bars n → Known (suc n) (Some n)
+  known_larger n x k e z =
+      let b = larger_before bars n x z in
+      record {
+        below = omega arith;
+        here = e;
+        first = λ y h w d.
+            ⊎_elim (λ (l : y < n). ⊎_elim (λ (q : y ≡ x). rw q b) (λ (q : y ≡ x → ⊥). before_on bars n x y b (k.first y l w q)) (same_or_not y x)) (λ (l : n ≤ y). absurd (d (omega arith))) (below_or_not y n);
+      }
 
-  size_waits : (key : ℕ) → 0 < waiting_size key → waits bars placed key ≡ true
-  size_waits key h = ⊎_elim (λ (t : waits bars placed key ≡ true). t) (λ (t : waits bars placed key ≡ false). absurd (omega (arith, rw t at h))) (true_or_false (waits bars placed key))
+  pub known_same : (n x : ℕ) → Known n (Some x) → size_at bars n ≤ size_at bars x → Known (suc n) (Some x)
+  known_same n x k z =
+      let b : comes_before bars x n ≡ true = ⊎_elim (λ (l : size_at bars n < size_at bars x). larger_before bars x n l) (λ (l : size_at bars x ≤ size_at bars n). equal_before bars x n (omega arith) k.below) (below_or_not (size_at bars n) (size_at bars x)) in
+      record { below = omega (arith, k.below); here = k.here; first = λ y h w d. ⊎_elim (λ (l : y < n). k.first y l w d) (λ (l : n ≤ y). let q : y ≡ n = omega arith in rw q b) (below_or_not y n) }
 
-  waits_waiting : (key : ℕ) → waits bars placed key ≡ true → waiting_size key ≡ size_at bars key
-  waits_waiting key e = rw e
+  -- what is known of all keys is the next one
+  pub known_next : (k : Option ℕ) → Known key_count k → next_of bars placed ≡ k
+  known_next None f = next_none bars placed f
+  known_next (Some x) f = next_at bars placed x f.below (record { here = f.here; first = f.first })
 
-  pub largest_none : (largest_in bars placed key_count).size ≡ 0 → next_of bars placed ≡ Nothing
-  largest_none e =
-      next_none bars placed (λ y h. never (waits bars placed y) (λ t. omega (arith, waits_size bars placed y t, waits_waiting y t, (largest_is key_count).most y h)))
+  -- there is always something known
+  known_more : (n : ℕ) (k : Option ℕ) → Known n k → waits bars placed n ≡ true → (j : Option ℕ) × Known (suc n) j
+  known_more n None k e = (Some n, known_first n k e)
+  known_more n (Some x) k e =
+      ⊎_elim (λ (z : size_at bars x < size_at bars n). (Some n, known_larger n x k e z)) (λ (z : size_at bars n ≤ size_at bars x). (Some x, known_same n x k z)) (below_or_not (size_at bars x) (size_at bars n))
 
-  pub largest_next : (0 < (largest_in bars placed key_count).size) → next_of bars placed ≡ At (largest_in bars placed key_count).key
-  largest_next h =
-      let l = largest_is key_count in
-      let x = (largest_in bars placed key_count).key in
-      let r = l.there h in
-      let w = size_waits x (omega (arith, h, r.1)) in
-      next_at bars placed x r.0 (record {
-        here = w;
-        first = λ y k v d.
-            ⊎_elim (λ (q : size_at bars y < size_at bars x). larger_before bars x y q)
-            (λ (q : size_at bars x ≤ size_at bars y). equal_before bars x y (omega (arith, r.1, l.most y k, waits_waiting y v, waits_waiting x w))
-            (⊎_elim (λ (m : x < y). m) (λ (m : y ≤ x). ⊎_elim (λ (o : y < x). absurd (omega (arith, r.1, l.lowest y o, waits_waiting y v, waits_waiting x w))) (λ o. absurd (d (omega arith))) (below_or_not y x)) (below_or_not x y)))
-            (below_or_not (size_at bars y) (size_at bars x));
-      })
+  known_of : (n : ℕ) → (k : Option ℕ) × Known n k
+  known_of zero = (None, λ y h. absurd (omega arith))
+  known_of (suc n) =
+      let k = known_of n in
+      ⊎_elim (λ (t : waits bars placed n ≡ true). known_more n k.0 k.1 t) (λ (t : waits bars placed n ≡ false). (k.0, known_idle n k.0 k.1 t)) (true_or_false (waits bars placed n))
 
   -- where there is no next one, nothing waits
-  pub none_waits : next_of bars placed ≡ Nothing → (y : ℕ) → y < key_count → waits bars placed y ≡ false
-  none_waits e y h =
-      ⊎_elim (λ (z : 0 < (largest_in bars placed key_count).size). let q = largest_next z in let w : ◌≡◌ {A = ℕ} 0 1 = cc in absurd (omega arith))
-      (λ (z : (largest_in bars placed key_count).size ≤ 0). never (waits bars placed y) (λ t. omega (arith, waits_size bars placed y t, waits_waiting y t, (largest_is key_count).most y h)))
-      (below_or_not 0 (largest_in bars placed key_count).size)
+  pub none_waits : next_of bars placed ≡ None → Known key_count None
+  none_waits e = let k = known_of key_count in subst (Known key_count) (sym (known_next k.0 k.1) ∙ e) k.1

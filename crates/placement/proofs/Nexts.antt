@@ -14,7 +14,7 @@ use Rattle.bar.specs.declared.memory_bar.MemoryBar.{MemoryBar}
 use Rattle.placement.specs.Keys.{key_count}
 use Rattle.placement.specs.Order.{comes_before}
 use Rattle.placement.specs.Passes.{waits, is_next, next_of}
-use Rattle.placement.specs.declared.automatic.Next.TheVariants.{At, Nothing}
+use Rattle.std.specs.Prelude.{Some, None}
 use Rattle.placement.proofs.Orders.{not_both_before}
 
 -- what the next one is
@@ -54,19 +54,19 @@ module _ (bars : List MemoryBar) (placed : List Range) where
   pub first_unique : (x y : ℕ) → x < key_count → y < key_count → Foremost bars placed x → Foremost bars placed y → (x ≡ y → ⊥) → ⊥
   first_unique x y h k a b d = not_both_before bars x y (a.first y k b.here (λ e. d (sym e))) (b.first x h a.here d)
 
-  pub next_at : (x : ℕ) → x < key_count → Foremost bars placed x → next_of bars placed ≡ At x
+  pub next_at : (x : ℕ) → x < key_count → Foremost bars placed x → next_of bars placed ≡ Some x
   unfolding next_of
   next_at x h f =
-      first_is At Nothing (is_next bars placed) key_count x (record { below = h; before = λ b l. never (is_next bars placed b) (λ t. first_unique b x (omega arith) h (next_first b t) f (λ e. omega arith)); here = first_next x f })
+      first_is Some None (is_next bars placed) key_count x (record { below = h; before = λ b l. never (is_next bars placed b) (λ t. first_unique b x (omega arith) h (next_first b t) f (λ e. omega arith)); here = first_next x f })
 
-  pub next_none : ((y : ℕ) → y < key_count → waits bars placed y ≡ false) → next_of bars placed ≡ Nothing
+  pub next_none : ((y : ℕ) → y < key_count → waits bars placed y ≡ false) → next_of bars placed ≡ None
   unfolding next_of
   next_none f =
-      first_none At Nothing (is_next bars placed) key_count (λ b l. never (is_next bars placed b) (λ t. both (next_first b t).here (f b l)))
+      first_none Some None (is_next bars placed) key_count (λ b l. never (is_next bars placed b) (λ t. both (next_first b t).here (f b l)))
 
   -- and what an answer says
-  pub next_is : (x : ℕ) → next_of bars placed ≡ At x → (x < key_count) × Foremost bars placed x
+  pub next_is : (x : ℕ) → next_of bars placed ≡ Some x → (x < key_count) × Foremost bars placed x
   unfolding next_of
   next_is x q =
-      let f = found_first At Nothing (λ a b e. cc) (λ a e. let z : ◌≡◌ {A = ℕ} 0 1 = cc in absurd (omega arith)) (is_next bars placed) key_count x q in
+      let f = found_first Some None (λ a b e. cc) (λ a e. cc) (is_next bars placed) key_count x q in
       (f.below, next_first x f.here)

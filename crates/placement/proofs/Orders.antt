@@ -39,7 +39,7 @@ module _ (bars : List MemoryBar) where
   before_self : (x : ℕ) → comes_before bars x x ≡ false
   before_self x = never (comes_before bars x x) (λ e. not_both_before x x e e)
 
-  before_on : (x y z : ℕ) → comes_before bars x y ≡ true → comes_before bars y z ≡ true → comes_before bars x z ≡ true
+  pub before_on : (x y z : ℕ) → comes_before bars x y ≡ true → comes_before bars y z ≡ true → comes_before bars x z ≡ true
   before_on x y z e f =
       ⊎_elim
       (λ a. larger_before x z (⊎_elim (λ b. omega arith) (λ b. omega (arith, b.0)) (before_is y z f)))

@@ -3,9 +3,11 @@ use Prim.Native.Nat.{ℕ, ◌<◌, ◌/◌, ◌%◌}
 use mathlib.Core.Bool.{true, false}
 use mathlib.Core.List.{List}
 use mathlib.Core.Logic.{⊎_elim}
-use mathlib.Core.Path.{◌≡◌, refl, ap}
+use mathlib.Core.Path.{◌≡◌, ap}
 use native.Mathlib.Omega.{arith}
 use lib.ListN.{get_or}
+use Rattle.std.specs.Prelude.{Ok, Err}
+use Rattle.refusal.specs.declared.refusal.Refusal.{Refusal}
 use Rattle.word.proofs.Tests.{below_or_not, true_or_false, both}
 use Rattle.word.proofs.Tables.{length_table}
 use Rattle.address.specs.Layout.{bar_count}
@@ -16,19 +18,16 @@ use Rattle.bar.specs.declared.memory_bar.MemoryBar.{MemoryBar}
 use Rattle.placement.specs.Keys.{key_count, bars_of}
 use Rattle.placement.specs.Place.{no_range}
 use Rattle.placement.specs.Order.{size_at, placed_before}
-use Rattle.placement.specs.Passes.{fixed_after, auto_after, placing_of}
-use Rattle.placement.specs.Answer.{addresses_of, device_of, all_placed, refused_at, answered, placement_of}
+use Rattle.placement.specs.Passes.{Placing, fixed_after, auto_after, placing_of}
+use Rattle.placement.specs.Answer.{Placement, addresses_of, device_of, refused_at, answered, placement_of}
 use Rattle.placement.specs.Outcome.{GivenAt, AllGiven, FirstRefused, Outcome, all_given, one_refused}
 use Rattle.placement.specs.declared.declared_bars.DeclaredBars.{DeclaredBars}
-use Rattle.placement.specs.declared.placing.Verdict.{Verdict}
-use Rattle.placement.specs.declared.placing.Verdict.TheVariants.{Going, Refused}
-use Rattle.placement.specs.declared.answer.Placement.{Placement}
-use Rattle.placement.specs.declared.answer.PlacementAnswer.TheVariants as answer
+use Rattle.placement.specs.declared.answer.PlacementRefusal.{PlacementRefusal}
 use Rattle.placement.proofs.Waits.{is_waiting}
 use Rattle.placement.proofs.Rules.{given_none}
-use Rattle.placement.proofs.Sounds.{address_at}
-use Rattle.placement.proofs.FixedPass.{Kept, fixed_kept}
-use Rattle.placement.proofs.Agrees.{refused_key, refused_number, given_not_refused, given_addresses}
+use Rattle.placement.proofs.Sounds.{Sound, address_at}
+use Rattle.placement.proofs.FixedPass.{Kept, kept_onward, fixed_below, fixed_kept}
+use Rattle.placement.proofs.Agrees.{refused_key, refused_reason, given_not_refused, given_addresses}
 use Rattle.placement.proofs.AutoPass.{done_in, not_done, Ahead, ahead_first, auto_kept, all_done}
 
 module _ (aperture : Aperture) (bars : List MemoryBar) where
@@ -47,54 +46,55 @@ module _ (aperture : Aperture) (bars : List MemoryBar) where
   passes_kept : Kept aperture bars (λ placed. AllGiven aperture bars (addresses_of placed)) (placing_of aperture bars)
   unfolding placing_of
   passes_kept =
-      let s = fixed_after aperture bars key_count in
-      let f = fixed_kept aperture bars key_count (omega arith) in
-      let a = auto_kept aperture bars s key_count (λ v. ahead_first aperture bars s.placed (f.0 v), f.1) in
-      (λ v. all_have (auto_after aperture bars s key_count).placed (a.0 v), a.1)
+      let X = Sound aperture bars (fixed_below aperture bars key_count) in
+      let Y : List Range → Type 0 = λ placed. AllGiven aperture bars (addresses_of placed) in
+      kept_onward aperture bars X Y (λ placed. auto_after aperture bars placed key_count) (fixed_after aperture bars key_count) (fixed_kept aperture bars key_count (omega arith))
+      (λ placed s. kept_same (auto_after aperture bars placed key_count) (auto_kept aperture bars placed key_count (ahead_first aperture bars placed s)))
+    where
+      kept_same : (s : Placing) → Kept aperture bars (Ahead aperture bars key_count) s → Kept aperture bars (λ placed. AllGiven aperture bars (addresses_of placed)) s
+      kept_same (Ok placed) a = all_have placed a
+      kept_same (Err e) f = f
 
 module _ (aperture : Aperture) (d : DeclaredBars) where
-  by_verdict : (v : Verdict) (placed : List Range) → (v ≡ Going → AllGiven aperture (bars_of d) (addresses_of placed)) → ((number key : ℕ) → v ≡ Refused number key → FirstRefused aperture (bars_of d) number key) → Outcome aperture d (answered d v placed)
-  by_verdict Going placed f g = all_given (addresses_of placed) (f refl)
-  by_verdict (Refused number key) placed f g = one_refused number key (g number key refl)
+  by_placing : (s : Placing) → Kept aperture (bars_of d) (λ placed. AllGiven aperture (bars_of d) (addresses_of placed)) s → Outcome aperture d (answered d s)
+  by_placing (Ok placed) a = all_given (addresses_of placed) a
+  by_placing (Err e) f = one_refused e.refusal e.key f
 
   -- the answer is as it is to be
   pub placement_outcome : Outcome aperture d (placement_of aperture d)
   unfolding placement_of
-  placement_outcome =
-      let s = placing_of aperture (bars_of d) in
-      let k = passes_kept aperture (bars_of d) in
-      by_verdict s.verdict s.placed k.0 k.1
+  placement_outcome = by_placing (placing_of aperture (bars_of d)) (passes_kept aperture (bars_of d))
 
-  same_refusal : (number key m k : ℕ) → key ≡ k → number ≡ m → refused_at d number key ≡ refused_at d m k
-  same_refusal number key m k e f = rw (e, f)
+  same_refusal : (refusal m : Refusal) (key k : ℕ) → key ≡ k → refusal ≡ m → ◌≡◌ {A = Placement} (Err (refused_at d refusal key)) (Err (refused_at d m k))
+  same_refusal refusal m key k e f = rw (e, f)
 
   -- and two such answers are one
   pub outcome_unique : (p q : Placement) → Outcome aperture d p → Outcome aperture d q → p ≡ q
-  outcome_unique p q (all_given a f) (all_given b g) = ap all_placed (given_addresses aperture (bars_of d) a b f g)
+  outcome_unique p q (all_given a f) (all_given b g) = ap Ok (given_addresses aperture (bars_of d) a b f g)
   outcome_unique p q (all_given a f) (one_refused m k g) = absurd (given_not_refused aperture (bars_of d) m k a g f)
-  outcome_unique p q (one_refused number key f) (all_given b g) = absurd (given_not_refused aperture (bars_of d) number key b f g)
-  outcome_unique p q (one_refused number key f) (one_refused m k g) =
-      let e = refused_key aperture (bars_of d) number key m k f g in
-      same_refusal number key m k e (refused_number aperture (bars_of d) number m k (rw e at f) g)
+  outcome_unique p q (one_refused refusal key f) (all_given b g) = absurd (given_not_refused aperture (bars_of d) refusal key b f g)
+  outcome_unique p q (one_refused refusal key f) (one_refused m k g) =
+      let e = refused_key aperture (bars_of d) refusal m key k f g in
+      same_refusal refusal m key k e (refused_reason aperture (bars_of d) refusal m k (rw e at f) g)
 
   -- accepted exactly when every BAR has its address
-  pub accepted_when : (addresses : List ℕ) → AllGiven aperture (bars_of d) addresses → placement_of aperture d ≡ all_placed addresses
-  accepted_when addresses a = outcome_unique (placement_of aperture d) (all_placed addresses) placement_outcome (all_given addresses a)
+  pub accepted_when : (addresses : List ℕ) → AllGiven aperture (bars_of d) addresses → placement_of aperture d ≡ Ok addresses
+  accepted_when addresses a = outcome_unique (placement_of aperture d) (Ok addresses) placement_outcome (all_given addresses a)
 
-  pub when_accepted : (placement_of aperture d).answer ≡ answer.Placed → AllGiven aperture (bars_of d) (placement_of aperture d).addresses
-  when_accepted = from (placement_of aperture d) placement_outcome
+  pub when_accepted : (addresses : List ℕ) → placement_of aperture d ≡ Ok addresses → AllGiven aperture (bars_of d) addresses
+  when_accepted addresses = from (placement_of aperture d) placement_outcome
     where
-      from : (p : Placement) → Outcome aperture d p → p.answer ≡ answer.Placed → AllGiven aperture (bars_of d) p.addresses
-      from p (all_given a f) e = f
-      from p (one_refused m k g) e = let z : ◌≡◌ {A = ℕ} 0 1 = cc in absurd (omega arith)
+      from : (p : Placement) → Outcome aperture d p → p ≡ Ok addresses → AllGiven aperture (bars_of d) addresses
+      from p (all_given a f) e = let q : a ≡ addresses = cc in rw (← q) f
+      from p (one_refused m k g) e = cc
 
-  -- refused with a number and a place exactly when the BAR there is refused by that number's row, and all placed before it can have their addresses
-  pub refused_when : (number key : ℕ) → FirstRefused aperture (bars_of d) number key → placement_of aperture d ≡ refused_at d number key
-  refused_when number key f = outcome_unique (placement_of aperture d) (refused_at d number key) placement_outcome (one_refused number key f)
+  -- refused with a reason and a place exactly when the BAR there is refused by that reason's row, and all placed before it can have their addresses
+  pub refused_when : (refusal : Refusal) (key : ℕ) → FirstRefused aperture (bars_of d) refusal key → placement_of aperture d ≡ Err (refused_at d refusal key)
+  refused_when refusal key f = outcome_unique (placement_of aperture d) (Err (refused_at d refusal key)) placement_outcome (one_refused refusal key f)
 
-  pub when_refused : (number device slot : ℕ) → (placement_of aperture d).answer ≡ answer.Refused number device slot → (key : ℕ) × FirstRefused aperture (bars_of d) number key × (device ≡ device_of d (key / bar_count)) × (slot ≡ key % bar_count)
-  when_refused number device slot = from (placement_of aperture d) placement_outcome
+  pub when_refused : (r : PlacementRefusal) → placement_of aperture d ≡ Err r → (key : ℕ) × FirstRefused aperture (bars_of d) r.refusal key × (r.device ≡ device_of d (key / bar_count)) × (r.slot ≡ key % bar_count)
+  when_refused r = from (placement_of aperture d) placement_outcome
     where
-      from : (p : Placement) → Outcome aperture d p → p.answer ≡ answer.Refused number device slot → (key : ℕ) × FirstRefused aperture (bars_of d) number key × (device ≡ device_of d (key / bar_count)) × (slot ≡ key % bar_count)
-      from p (all_given a f) e = let z : ◌≡◌ {A = ℕ} 0 1 = cc in absurd (omega arith)
-      from p (one_refused m k g) e = let q : m ≡ number = cc in (k, rw (← q) g, cc, cc)
+      from : (p : Placement) → Outcome aperture d p → p ≡ Err r → (key : ℕ) × FirstRefused aperture (bars_of d) r.refusal key × (r.device ≡ device_of d (key / bar_count)) × (r.slot ≡ key % bar_count)
+      from p (all_given a f) e = cc
+      from p (one_refused m k g) e = let q : refused_at d m k ≡ r = cc in (k, rw (← q) g, rw (← q), rw (← q))

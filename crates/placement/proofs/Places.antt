@@ -14,8 +14,7 @@ use Rattle.bar.specs.declared.range.Range.{Range}
 use Rattle.bar.specs.declared.range.Aperture.{Aperture}
 use Rattle.bar.proofs.Ranges.{empty_second, lies_end}
 use Rattle.placement.specs.Place.{no_range, meets_any, is_place, Lowest, least_fit, lowest_of}
-use Rattle.placement.specs.declared.search.Fit.{Fit}
-use Rattle.placement.specs.declared.search.Fit.TheVariants.{At, Nothing}
+use Rattle.std.specs.Prelude.{Option, Some, None}
 use Rattle.placement.proofs.Fits.{LeastIn, fit_least, fit_unique}
 
 -- a range meets one of a list, or is free of each
@@ -61,16 +60,16 @@ module _ (aperture : Aperture) (size : ℕ) (placed : List Range) where
   pub place_end : (a : ℕ) → is_place aperture size placed a ≡ true → a + size ≤ aperture.end
   place_end a e = lies_end aperture (range a size) (place_is a e).within
 
-  to_least : (r : Fit) → Lowest aperture size placed r → LeastIn (is_place aperture size placed) (aperture.end + 1) r
-  to_least (At a) l = (omega (arith, place_end a l.0), l.0, l.1)
-  to_least Nothing l = λ b h. l b
+  to_least : (r : Option ℕ) → Lowest aperture size placed r → LeastIn (is_place aperture size placed) (aperture.end + 1) r
+  to_least (Some a) l = (omega (arith, place_end a l.0), l.0, l.1)
+  to_least None l = λ b h. l b
 
-  from_least : (r : Fit) → LeastIn (is_place aperture size placed) (aperture.end + 1) r → Lowest aperture size placed r
-  from_least (At a) l = (l.1, l.2)
-  from_least Nothing l = λ b. never (is_place aperture size placed b) (λ t. both t (l b (omega (arith, place_end b t))))
+  from_least : (r : Option ℕ) → LeastIn (is_place aperture size placed) (aperture.end + 1) r → Lowest aperture size placed r
+  from_least (Some a) l = (l.1, l.2)
+  from_least None l = λ b. never (is_place aperture size placed b) (λ t. both t (l b (omega (arith, place_end b t))))
 
   -- two answers to one question are equal
-  pub lowest_unique : (r s : Fit) → Lowest aperture size placed r → Lowest aperture size placed s → r ≡ s
+  pub lowest_unique : (r s : Option ℕ) → Lowest aperture size placed r → Lowest aperture size placed s → r ≡ s
   lowest_unique r s a b = fit_unique (is_place aperture size placed) (aperture.end + 1) r s (to_least r a) (to_least s b)
 
   -- there is always one
@@ -78,5 +77,5 @@ module _ (aperture : Aperture) (size : ℕ) (placed : List Range) where
   unfolding lowest_of
   lowest_is = from_least (least_fit (is_place aperture size placed) (aperture.end + 1)) (fit_least (is_place aperture size placed) (aperture.end + 1))
 
-  pub is_lowest : (r : Fit) → Lowest aperture size placed r → r ≡ lowest_of aperture size placed
+  pub is_lowest : (r : Option ℕ) → Lowest aperture size placed r → r ≡ lowest_of aperture size placed
   is_lowest r l = lowest_unique r (lowest_of aperture size placed) l lowest_is

@@ -8,6 +8,7 @@ use lib.ListN.{length, get_or, set, length-set}
 use lib.Seq.{ext_get_or, get_or-set_same, get_or-set_other}
 use Rattle.word.proofs.Tests.{true_or_false, same_or_not, both}
 use Rattle.word.proofs.Tables.{length_table, get_or_table, table_ext}
+use Rattle.refusal.specs.declared.refusal.Refusal.{Refusal}
 use Rattle.bar.specs.Range.{range}
 use Rattle.bar.specs.Bar.{no_bar}
 use Rattle.bar.specs.declared.range.Range.{Range}
@@ -68,8 +69,8 @@ module _ (aperture : Aperture) (bars : List MemoryBar) where
         (⊎_elim (λ (t : precedes bars k x ≡ true). rw (t, address_at placed k l, ← s.sized k l t)) (λ (t : precedes bars k x ≡ false). rw t (s.blank k l t)) (true_or_false (precedes bars k x))))
 
     -- it is refused by a row
-    pub turn_refused : (number : ℕ) → Row aperture (get_or bars x no_bar) placed number → FirstRefused aperture bars number x
-    turn_refused number r =
+    pub turn_refused : (refusal : Refusal) → Row aperture (get_or bars x no_bar) placed refusal → FirstRefused aperture bars refusal x
+    turn_refused refusal r =
         record { within = h; addresses = addresses_of placed; before = s.given; row = rw (← turn_placed) r }
 
     -- or is given an address

@@ -1,6 +1,6 @@
 -- Worked examples of document 01: P9, the Run case's addresses, and one refusal each of 14, 15 and 16. The declared BARs have the shape that code holds.
-use Rattle.std.specs.Prelude.{ℕ, ◌-◌, List, [], ◌∷◌, ◌++◌, length, set, replicate}
-use Rattle.refusal.specs.Number.{not_multiple, outside_aperture, overlaps_placed, no_place}
+use Rattle.std.specs.Prelude.{ℕ, ◌-◌, List, [], ◌∷◌, ◌++◌, length, set, replicate, Ok, Err}
+use Rattle.refusal.specs.declared.refusal.Refusal.TheVariants.{NotMultiple, OutsideAperture, OverlapsPlaced, NoPlace}
 use Rattle.address.specs.Layout.{bar_count}
 use Rattle.address.specs.Limits.{function_room}
 use Rattle.address.specs.Kinds.{slot}
@@ -9,10 +9,9 @@ use Rattle.bar.specs.declared.range.Aperture.{Aperture}
 use Rattle.bar.specs.declared.memory_bar.MemoryBar.{MemoryBar}
 use Rattle.bar.specs.declared.memory_bar.Request.TheVariants.{Auto, Fixed}
 use Rattle.placement.specs.Keys.{key_count, no_function}
-use Rattle.placement.specs.Answer.{all_placed, refused_by, placement_of}
+use Rattle.placement.specs.Answer.{Placement, refused_by, placement_of}
 use Rattle.placement.specs.declared.declared_bars.FunctionBars.{FunctionBars}
 use Rattle.placement.specs.declared.declared_bars.DeclaredBars.{DeclaredBars}
-use Rattle.placement.specs.declared.answer.Placement.{Placement}
 
 -- an array of n that begins with a list
 abbrev pub padded : {A : Type 0} → ℕ → A → List A → List A
@@ -54,4 +53,4 @@ asked =
     placement_of run_aperture (two_fixed 0x80008010) ∷ placement_of run_aperture (two_fixed 0xfffffffffffff000) ∷ placement_of run_aperture (two_fixed 0x80003000) ∷ []
 
 unfoldable pub told : List Placement
-told = refused_by no_place 7 2 ∷ all_placed run_addresses ∷ refused_by not_multiple 3 1 ∷ refused_by outside_aperture 3 1 ∷ refused_by overlaps_placed 3 1 ∷ []
+told = Err (refused_by NoPlace 7 2) ∷ Ok run_addresses ∷ Err (refused_by NotMultiple 3 1) ∷ Err (refused_by OutsideAperture 3 1) ∷ Err (refused_by OverlapsPlaced 3 1) ∷ []

@@ -4,7 +4,6 @@ pub mod Skip
 pub mod Keys
 pub mod Order
 pub mod Passes
-pub mod Largest
 pub mod Answer
 pub mod Rule
 pub mod Outcome

@@ -1,6 +1,7 @@
 -- The rule for one BAR, given the ranges placed before it: the address that it is given, and when each of 14 to 17 is (document 01, "Placement" and "Refusal numbers").
 use Rattle.std.specs.Prelude.{ℕ, ◌<◌, true, false, List, ◌≡◌}
-use Rattle.refusal.specs.Number.{not_multiple, outside_aperture, overlaps_placed, no_place}
+use Rattle.refusal.specs.declared.refusal.Refusal.{Refusal}
+use Rattle.refusal.specs.declared.refusal.Refusal.TheVariants.{NotMultiple, OutsideAperture, OverlapsPlaced, NoPlace}
 use Rattle.bar.specs.Range.{range, multiple, lies_in}
 use Rattle.bar.specs.declared.range.Range.{Range}
 use Rattle.bar.specs.declared.range.Aperture.{Aperture}
@@ -41,9 +42,9 @@ pub record Row17 (aperture : Aperture) (bar : MemoryBar) (placed : List Range) :
   pub there : 0 < bar.size
   pub no_place : (b : ℕ) → is_place aperture bar.size placed b ≡ false
 
--- the row of a number
-pub data Row (aperture : Aperture) (bar : MemoryBar) (placed : List Range) : ℕ → Type 0 where
-  row14 : Row14 bar → Row aperture bar placed not_multiple
-  row15 : Row15 aperture bar → Row aperture bar placed outside_aperture
-  row16 : Row16 aperture bar placed → Row aperture bar placed overlaps_placed
-  row17 : Row17 aperture bar placed → Row aperture bar placed no_place
+-- the row of a refusal
+pub data Row (aperture : Aperture) (bar : MemoryBar) (placed : List Range) : Refusal → Type 0 where
+  row14 : Row14 bar → Row aperture bar placed NotMultiple
+  row15 : Row15 aperture bar → Row aperture bar placed OutsideAperture
+  row16 : Row16 aperture bar placed → Row aperture bar placed OverlapsPlaced
+  row17 : Row17 aperture bar placed → Row aperture bar placed NoPlace

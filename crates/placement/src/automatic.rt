@@ -2,65 +2,50 @@
 ghost use Rattle.std.specs.Prelude.{◌≡◌, ◌<◌};
 ghost use Rattle.placement.specs.Keys.{key_count};
 ghost use Rattle.placement.specs.Place.{lowest_of};
-ghost use Rattle.placement.specs.Passes.{next_of, fitted, auto_step, auto_after};
+ghost use Rattle.placement.specs.Passes.{fitted, auto_step, auto_after};
 
 use crate::keys::KEY_COUNT;
-use crate::placing::{Placing, Verdict, settle};
-use crate::search::{Fit, first_fit};
-use crate::waiting::largest_waiting;
+use crate::placing::KeyRefusal;
+use crate::search::first_fit;
+use crate::waiting::next_automatic;
 use bar::{Aperture, MemoryBar, Range};
-use refusal::NO_PLACE;
-
-#[derive(Clone, Copy)]
-pub(crate) enum Next {
-    At(usize),
-    Nothing,
-}
-
-// The BAR that comes first among those that wait.
-fn next_automatic(bars: [MemoryBar; KEY_COUNT], placed: [Range; KEY_COUNT]) -> Next
-    ensures { result ≡ next_of bars placed }
-{
-    let largest = largest_waiting(bars, placed);
-    if largest.size == 0 {
-        return Next::Nothing;
-    }
-    Next::At(largest.key)
-}
+use refusal::Refusal;
 
 // Gives a key the lowest place for its size.
-fn place_lowest(aperture: Aperture, size: u64, placed: [Range; KEY_COUNT], key: usize) -> Placing
+fn place_lowest(
+    aperture: Aperture,
+    size: u64,
+    mut placed: [Range; KEY_COUNT],
+    key: usize,
+) -> Result<[Range; KEY_COUNT], KeyRefusal>
     requires { key < key_count }
     ensures { result ≡ fitted placed key size (lowest_of aperture size placed) }
 {
     match first_fit(aperture, size, placed) {
-        Fit::Nothing => Placing {
-            verdict: Verdict::Refused {
-                number: NO_PLACE,
-                key,
-            },
-            placed,
-        },
-        Fit::At(start) => settle(Verdict::Going, placed, key, Range { start, size }),
+        None => Err(KeyRefusal {
+            refusal: Refusal::NoPlace,
+            key,
+        }),
+        Some(start) => {
+            placed[key] = Range { start, size };
+            Ok(placed)
+        }
     }
 }
 
 // The next BAR, if one waits.
-fn automatic_step(aperture: Aperture, bars: [MemoryBar; KEY_COUNT], state: Placing) -> Placing
-    ensures { result ≡ auto_step aperture bars state }
+fn automatic_step(
+    aperture: Aperture,
+    bars: [MemoryBar; KEY_COUNT],
+    placed: [Range; KEY_COUNT],
+) -> Result<[Range; KEY_COUNT], KeyRefusal>
+    ensures { result ≡ auto_step aperture bars placed }
 {
-    let verdict = state.verdict;
-    match verdict {
-        Verdict::Refused { number: _, key: _ } => state,
-        Verdict::Going => {
-            let placed = state.placed;
-            match next_automatic(bars, placed) {
-                Next::Nothing => state,
-                Next::At(key) => {
-                    let bar = bars[key];
-                    place_lowest(aperture, bar.size(), placed, key)
-                }
-            }
+    match next_automatic(bars, placed) {
+        None => Ok(placed),
+        Some(key) => {
+            let bar = bars[key];
+            place_lowest(aperture, bar.size(), placed, key)
         }
     }
 }
@@ -69,15 +54,12 @@ fn automatic_step(aperture: Aperture, bars: [MemoryBar; KEY_COUNT], state: Placi
 pub(crate) fn place_automatic(
     aperture: Aperture,
     bars: [MemoryBar; KEY_COUNT],
-    state: Placing,
-) -> Placing
-    ensures { result ≡ auto_after aperture bars state key_count }
+    mut placed: [Range; KEY_COUNT],
+) -> Result<[Range; KEY_COUNT], KeyRefusal>
+    ensures { result ≡ auto_after aperture bars placed key_count }
 {
-    let mut now = state;
-    let mut turn = 0;
-    while turn < KEY_COUNT {
-        now = automatic_step(aperture, bars, now);
-        turn += 1;
+    for _turn in 0..KEY_COUNT {
+        placed = automatic_step(aperture, bars, placed)?;
     }
-    now
+    Ok(placed)
 }

@@ -26,26 +26,19 @@ pub struct DeclaredBars {
 fn bars_in(function: FunctionBars) -> usize
     ensures { result ≡ bars_in function }
 {
-    if function.count < BAR_SLOTS {
-        return function.count;
-    }
-    BAR_SLOTS
+    function.count.min(BAR_SLOTS)
 }
 
 // The first BAR that a function has at a slot.
 fn bar_in_slot(function: FunctionBars, slot: usize) -> MemoryBar
     ensures { result ≡ slot_bar function slot }
 {
-    let bars = function.bars;
-    let count = bars_in(function);
-    let mut i = 0;
-    while i < count {
-        let bar = bars[i];
+    for i in 0..bars_in(function) {
+        let bar = function.bars[i];
         let at = bar.slot().index();
         if at == slot {
             return bar;
         }
-        i += 1;
     }
     MemoryBar::none()
 }
@@ -75,11 +68,9 @@ pub(crate) fn collect_placements(declared: DeclaredBars) -> [MemoryBar; KEY_COUN
     ensures { result ≡ bars_of declared }
 {
     let mut bars = no_bars();
-    let mut key = 0;
-    while key < KEY_COUNT {
+    for key in 0..KEY_COUNT {
         let bar = bar_at(declared, key);
         bars[key] = bar;
-        key += 1;
     }
     bars
 }

@@ -4,43 +4,29 @@ ghost use Rattle.placement.specs.Keys.{key_count};
 ghost use Rattle.placement.specs.Place.{is_place};
 ghost use Rattle.placement.specs.Passes.{fixed_verdict, fixed_step, fixed_after};
 
-use crate::conflict::{Conflict, conflict_with};
+use crate::conflict::conflict_with;
 use crate::keys::KEY_COUNT;
-use crate::placing::{Placing, Verdict, settle};
+use crate::placing::{KeyRefusal, nothing_yet};
 use bar::{Aperture, MemoryBar, Range, Request};
-use refusal::{NOT_MULTIPLE, OUTSIDE_APERTURE, OVERLAPS_PLACED};
+use refusal::Refusal;
 
 // The checks of a fixed range, in order.
 fn checked_bar_range(
     aperture: Aperture,
     placed: [Range; KEY_COUNT],
-    key: usize,
     range: Range,
-) -> Verdict
-    ensures { result ≡ fixed_verdict aperture placed key range }
+) -> Result<(), Refusal>
+    ensures { result ≡ fixed_verdict aperture placed range }
 {
-    let aligned = range.multiple();
-    if aligned {
-        let inside = range.lies_in(aperture);
-        if inside {
-            match conflict_with(range, placed) {
-                Conflict::Free => return Verdict::Going,
-                Conflict::With(_) => {
-                    return Verdict::Refused {
-                        number: OVERLAPS_PLACED,
-                        key,
-                    };
-                }
-            }
-        }
-        return Verdict::Refused {
-            number: OUTSIDE_APERTURE,
-            key,
-        };
+    if !range.multiple() {
+        return Err(Refusal::NotMultiple);
     }
-    Verdict::Refused {
-        number: NOT_MULTIPLE,
-        key,
+    if !range.lies_in(aperture) {
+        return Err(Refusal::OutsideAperture);
+    }
+    match conflict_with(range, placed) {
+        None => Ok(()),
+        Some(_) => Err(Refusal::OverlapsPlaced),
     }
 }
 
@@ -52,10 +38,7 @@ pub fn is_place(aperture: Aperture, size: u64, placed: [Range; KEY_COUNT], addre
         start: address,
         size,
     };
-    match checked_bar_range(aperture, placed, 0, range) {
-        Verdict::Going => true,
-        Verdict::Refused { number: _, key: _ } => false,
-    }
+    checked_bar_range(aperture, placed, range).is_ok()
 }
 
 // The BAR of one key: a fixed one is checked and placed.
@@ -63,41 +46,39 @@ fn fixed_step(
     aperture: Aperture,
     bars: [MemoryBar; KEY_COUNT],
     key: usize,
-    state: Placing,
-) -> Placing
+    mut placed: [Range; KEY_COUNT],
+) -> Result<[Range; KEY_COUNT], KeyRefusal>
     requires { key < key_count }
-    ensures { result ≡ fixed_step aperture bars key state }
+    ensures { result ≡ fixed_step aperture bars key placed }
 {
-    let verdict = state.verdict;
-    match verdict {
-        Verdict::Refused { number: _, key: _ } => state,
-        Verdict::Going => {
-            let bar = bars[key];
-            let request = bar.request();
-            match request {
-                Request::Auto => state,
-                Request::Fixed(start) => {
-                    let placed = state.placed;
-                    let range = Range {
-                        start,
-                        size: bar.size(),
-                    };
-                    let checked = checked_bar_range(aperture, placed, key, range);
-                    settle(checked, placed, key, range)
+    let bar = bars[key];
+    match bar.request() {
+        Request::Auto => Ok(placed),
+        Request::Fixed(start) => {
+            let range = Range {
+                start,
+                size: bar.size(),
+            };
+            match checked_bar_range(aperture, placed, range) {
+                Err(refusal) => Err(KeyRefusal { refusal, key }),
+                Ok(()) => {
+                    placed[key] = range;
+                    Ok(placed)
                 }
             }
         }
     }
 }
 
-pub(crate) fn place_fixed(aperture: Aperture, bars: [MemoryBar; KEY_COUNT]) -> Placing
+pub(crate) fn place_fixed(
+    aperture: Aperture,
+    bars: [MemoryBar; KEY_COUNT],
+) -> Result<[Range; KEY_COUNT], KeyRefusal>
     ensures { result ≡ fixed_after aperture bars key_count }
 {
-    let mut state = Placing::new();
-    let mut key = 0;
-    while key < KEY_COUNT {
-        state = fixed_step(aperture, bars, key, state);
-        key += 1;
+    let mut placed = nothing_yet();
+    for key in 0..KEY_COUNT {
+        placed = fixed_step(aperture, bars, key, placed)?;
     }
-    state
+    Ok(placed)
 }

@@ -11,8 +11,8 @@ mod placing;
 mod search;
 mod waiting;
 
-pub use answer::{Placement, PlacementAnswer, resolve_bar_addresses};
+pub use answer::{PlacementRefusal, resolve_bar_addresses};
 pub use declared_bars::{DeclaredBars, FunctionBars};
 pub use fixed::is_place;
 pub use keys::KEY_COUNT;
-pub use search::{Fit, first_fit};
+pub use search::first_fit;

@@ -3,60 +3,45 @@ use crate::input::next;
 use crate::record::{ADDRESSES, RECORD_SIZE, REFUSAL, number};
 use crate::request::declared;
 use bar::Aperture;
-use placement::{KEY_COUNT, PlacementAnswer, resolve_bar_addresses};
+use placement::{KEY_COUNT, resolve_bar_addresses};
+use refusal::ACCEPTED;
 use std::io;
 use std::io::Read;
 
-fn wide(x: u8) -> u64 {
-    x as u64
-}
-
 fn same_refusal(record: &[u8], refusal: u8, device: u8, slot: u8) -> bool {
-    if wide(refusal) != number(record, REFUSAL) {
-        return false;
-    }
-    if wide(device) != number(record, REFUSAL + 1) {
-        return false;
-    }
-    wide(slot) == number(record, REFUSAL + 2)
-}
-
-fn same_verdict(record: &[u8], answer: PlacementAnswer) -> bool {
-    match answer {
-        PlacementAnswer::Placed => same_refusal(record, 0, 0, 0),
-        PlacementAnswer::Refused {
-            number,
-            device,
-            slot,
-        } => same_refusal(record, number, device, slot),
-    }
+    u64::from(refusal) == number(record, REFUSAL)
+        && u64::from(device) == number(record, REFUSAL + 1)
+        && u64::from(slot) == number(record, REFUSAL + 2)
 }
 
 fn same_addresses(record: &[u8], addresses: [u64; KEY_COUNT]) -> bool {
-    let mut key = 0;
-    while key < KEY_COUNT {
+    for key in 0..KEY_COUNT {
         if addresses[key] != number(record, ADDRESSES + key) {
             return false;
         }
-        key += 1;
     }
     true
 }
 
-// Both the verdict and every address.
+// Both the verdict and every address, which a refusal records as 0.
 fn same_answer(record: &[u8]) -> bool {
     let aperture = Aperture {
         start: number(record, 0),
         end: number(record, 1),
     };
-    let placement = resolve_bar_addresses(aperture, declared(record));
-    let answer = placement.answer;
-    let addresses = placement.addresses;
-    let verdict = same_verdict(record, answer);
-    if verdict {
-        return same_addresses(record, addresses);
+    match resolve_bar_addresses(aperture, declared(record)) {
+        Ok(addresses) => {
+            same_refusal(record, ACCEPTED, 0, 0) && same_addresses(record, addresses)
+        }
+        Err(refused) => {
+            same_refusal(
+                record,
+                refused.refusal.number(),
+                refused.device,
+                refused.slot,
+            ) && same_addresses(record, [0u64; KEY_COUNT])
+        }
     }
-    false
 }
 
 // Whether the record is there and the library answers as it says.

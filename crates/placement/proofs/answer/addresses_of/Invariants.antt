@@ -1,5 +1,5 @@
 -- `addresses_of` fills the list key by key.
-use Prim.Native.Nat.{ℕ, ◌-◌, ◌≤◌}
+use Prim.Native.Nat.{ℕ}
 use mathlib.Core.Path.{◌≡◌}
 use mathlib.Core.List.{List}
 use lib.ListN.{get_or}
@@ -13,7 +13,4 @@ abbrev pub start : List Range → ℕ → ℕ
 start placed key = (get_or placed key no_range).start
 
 abbrev pub invariant-loop-key : goal.invariant-loop-key
-invariant-loop-key l = (l.key ≤ key_count) × (l.addresses ≡ filled key_count l.key (start l.placed) 0)
-
-abbrev pub decreases-loop-key : goal.decreases-loop-key
-decreases-loop-key l = key_count - l.key
+invariant-loop-key l = l.addresses ≡ filled key_count l.key (start l.placed) 0

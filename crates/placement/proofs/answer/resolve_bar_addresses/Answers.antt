@@ -1,10 +1,11 @@
--- `resolve_bar_addresses` makes both passes over the BARs by key.
-use mathlib.Core.Path.{◌∙◌}
-use Rattle.placement.specs.Passes.{placing_of}
+-- `resolve_bar_addresses` says where both passes put the BARs by key.
 use Rattle.placement.specs.Answer.{placement_of}
 use Rattle.placement.proofs.answer.resolve_bar_addresses.Goals as goal
 
-pub returns : goal.returns
-unfolding placement_of placing_of
-returns c =
-    c.answer_of.ensures ∙ rw (c.place_automatic-all.ensures, c.place_fixed-fixed.ensures, c.collect_placements-bars.ensures)
+pub returns-in-Ok : goal.returns-in-Ok
+unfolding placement_of
+returns-in-Ok c = rw (← c.collect_placements.ensures, ← c.place_bars.ensures, c.in-Ok.is, c.addresses_of.ensures)
+
+pub returns-in-Err : goal.returns-in-Err
+unfolding placement_of
+returns-in-Err c = rw (← c.collect_placements.ensures, ← c.place_bars.ensures, c.in-Err.is, c.refused_at.ensures)

@@ -10,15 +10,6 @@ use Rattle.placement.proofs.Slots.{slot_first, slot_none}
 use Rattle.placement.proofs.declared_bars.bar_in_slot.Goals as goal
 use Rattle.placement.proofs.declared_bars.bar_in_slot.Goals.{After-index-at}
 
-pub loop-i-init : goal.loop-i-init
-loop-i-init c = (omega arith, λ k h. absurd (omega arith))
-
-pub offset_bounds-bars-i : goal.offset_bounds-bars-i
-offset_bounds-bars-i c = omega arith
-
-pub bounds-bars-i : goal.bounds-bars-i
-bounds-bars-i c = omega arith
-
 -- the slot that was read
 stands : (c : After-index-at) → c.index-at.result ≡ index_of (get_or c.args.function.bars c.loop-i.i no_bar).slot
 stands c = c.index-at.ensures ∙ ap (λ (s : Slot). index_of s) c.slot.ensures
@@ -26,19 +17,13 @@ stands c = c.index-at.ensures ∙ ap (λ (s : Slot). index_of s) c.slot.ensures
 pub returns-then-at-slot : goal.returns-then-at-slot
 returns-then-at-slot c =
     let a = c.args in
-    sym (slot_first a.function a.slot c.loop-i.i (omega (arith, c.bars_in-count.ensures)) (eq-eqb _ _ (sym (stands (goal.at.returns-then-at-slot c).After-index-at) ∙ c.if-at-slot.true)) c.loop-i.invariant.1)
-
-pub overflow_add-i : goal.overflow_add-i
-overflow_add-i c = omega arith
-
-pub loop-i-smaller : goal.loop-i-smaller
-loop-i-smaller c = omega arith
+    sym (slot_first a.function a.slot c.loop-i.i (omega (arith, c.bars_in-i-end.ensures)) (eq-eqb _ _ (sym (stands (goal.at.returns-then-at-slot c).After-index-at) ∙ c.if-at-slot.true)) c.loop-i.invariant)
 
 pub loop-i-preserved : goal.loop-i-preserved
 loop-i-preserved c =
-    (omega arith, below_more _ _ c.loop-i.invariant.1 (ne_eqb _ _ (λ e. c.if-at-slot.false (stands (goal.at.loop-i-preserved c).After-index-at ∙ e))))
+    below_more _ _ c.loop-i.invariant (ne_eqb _ _ (λ e. c.if-at-slot.false (stands (goal.at.loop-i-preserved c).After-index-at ∙ e)))
 
 pub returns : goal.returns
 returns c =
     let a = c.args in
-    c.none.ensures ∙ sym (slot_none a.function a.slot (λ k h. c.loop-i.invariant.1 k (omega (arith, c.bars_in-count.ensures))))
+    c.none.ensures ∙ sym (slot_none a.function a.slot (λ k h. c.loop-i.invariant k (omega (arith, c.bars_in-i-end.ensures))))

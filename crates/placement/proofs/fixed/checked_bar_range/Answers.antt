@@ -1,39 +1,25 @@
 -- `checked_bar_range` makes the three checks in order.
-use mathlib.Core.Bool.{true}
-use mathlib.Core.Path.{◌≡◌, sym, ◌∙◌}
-use lib.ListN.{length}
-use Rattle.bar.specs.Range.{multiple, lies_in}
-use Rattle.placement.specs.Keys.{key_count}
-use Rattle.placement.specs.declared.conflict.Conflict.TheVariants.{With, Free}
-use Rattle.placement.proofs.Skips.{Clash, clash_is, clash_free, clash_met}
+use mathlib.Core.Path.{sym, ◌∙◌}
+use Rattle.std.specs.Prelude.{Some, None}
+use Rattle.placement.specs.Skip.{Clash}
 use Rattle.placement.proofs.Verdicts.{verdict_14, verdict_15, verdict_16, verdict_good}
-use borrow.Author.Rules.{rules}
+use Rattle.placement.proofs.Skips.{clash_met}
 use Rattle.placement.proofs.fixed.checked_bar_range.Goals as goal
-use Rattle.placement.proofs.fixed.checked_bar_range.Goals.{After-conflict_with, Start}
 
-long : (c : Start) → length c.args.placed ≡ key_count
-long c = search rules
+pub returns-then-not-multiple : goal.returns-then-not-multiple
+returns-then-not-multiple c = sym (verdict_14 _ _ _ (sym c.multiple.ensures ∙ c.if-not-multiple.true))
 
-aligned : (c : After-conflict_with) → multiple c.args.range ≡ true
-aligned c = sym c.multiple-aligned.ensures ∙ c.if-aligned.true
+pub returns-then-not-lies_in : goal.returns-then-not-lies_in
+returns-then-not-lies_in c = sym (verdict_15 _ _ _ (sym c.multiple.ensures ∙ c.if-not-multiple.false) (sym c.lies_in.ensures ∙ c.if-not-lies_in.true))
 
-inside : (c : After-conflict_with) → lies_in c.args.aperture c.args.range ≡ true
-inside c = sym c.lies_in-inside.ensures ∙ c.if-inside.true
-
-pub returns-in-Free : goal.returns-in-Free
-returns-in-Free c =
+pub returns-in-None : goal.returns-in-None
+returns-in-None c =
     let a = c.args in
-    let free : Clash a.range a.placed key_count Free = clash_is a.range a.placed key_count Free (sym c.in-Free.is ∙ c.conflict_with.ensures) in
-    sym (verdict_good _ _ _ _ (aligned (goal.at.returns-in-Free c).After-conflict_with) (inside (goal.at.returns-in-Free c).After-conflict_with) (clash_free a.range a.placed (rw (long (goal.at.returns-in-Free c).Start) free)))
+    let free : Clash a.range a.placed None = rw c.in-None.is at c.conflict_with.ensures in
+    sym (verdict_good _ _ _ (sym c.multiple.ensures ∙ c.if-not-multiple.false) (sym c.lies_in.ensures ∙ c.if-not-lies_in.false) free)
 
-pub returns-in-With : goal.returns-in-With
-returns-in-With c =
+pub returns-in-Some : goal.returns-in-Some
+returns-in-Some c =
     let a = c.args in
-    let met = clash_is a.range a.placed key_count (With c.in-With.field-0) (sym c.in-With.is ∙ c.conflict_with.ensures) in
-    sym (verdict_16 _ _ _ _ (aligned (goal.at.returns-in-With c).After-conflict_with) (inside (goal.at.returns-in-With c).After-conflict_with) (clash_met a.range a.placed key_count c.in-With.field-0 met))
-
-pub returns-then-aligned : goal.returns-then-aligned
-returns-then-aligned c = sym (verdict_15 _ _ _ _ (sym c.multiple-aligned.ensures ∙ c.if-aligned.true) (sym c.lies_in-inside.ensures ∙ c.if-inside.false))
-
-pub returns : goal.returns
-returns c = sym (verdict_14 _ _ _ _ (sym c.multiple-aligned.ensures ∙ c.if-aligned.false))
+    let met : Clash a.range a.placed (Some c.in-Some.field-0) = rw c.in-Some.is at c.conflict_with.ensures in
+    sym (verdict_16 _ _ _ (sym c.multiple.ensures ∙ c.if-not-multiple.false) (sym c.lies_in.ensures ∙ c.if-not-lies_in.false) (clash_met a.range a.placed c.in-Some.field-0 met))

@@ -1,26 +1,24 @@
-use mathlib.Core.Path.{◌≡◌}
+use Prim.Native.Nat.{◌+◌}
+use mathlib.Core.Path.{refl, sym, ◌∙◌}
 use native.Mathlib.Numerals.{add-one}
+use native.Mathlib.Omega.{arith}
+use Rattle.std.proofs.lemmas.Result.{err_from_is_err_and}
 use Rattle.placement.specs.Keys.{key_count}
 use Rattle.placement.specs.Passes.{fixed_after}
-use native.Mathlib.Omega.{arith}
+use Rattle.placement.proofs.Steps.{fixed_stays}
 use Rattle.placement.proofs.fixed.place_fixed.Goals as goal
 
 pub loop-key-init : goal.loop-key-init
 unfolding fixed_after
-loop-key-init c = (omega arith, c.new-state.ensures)
+loop-key-init c = rw c.nothing_yet-placed.ensures refl
 
-pub fixed_step-state-requires : goal.fixed_step-state-requires
-fixed_step-state-requires c = omega arith
-
-pub overflow_add-key : goal.overflow_add-key
-overflow_add-key c = omega arith
-
-pub loop-key-smaller : goal.loop-key-smaller
-loop-key-smaller c = omega arith
+pub returns-in_err-placed : goal.returns-in_err-placed
+unfolding fixed_after
+returns-in_err-placed c =
+    let a = c.args in
+    let p = err_from_is_err_and c.from_residual.result c.from_residual.ensures.1 in
+    rw (p.1, p.2) (sym (fixed_stays a.aperture a.bars _ (c.loop-key.key + 1) key_count (omega arith) (rw (add-one, ← c.loop-key.invariant) (sym c.fixed_step.ensures ∙ c.in_err-placed.was))))
 
 pub loop-key-preserved : goal.loop-key-preserved
 unfolding fixed_after
-loop-key-preserved c = (omega arith, rw (add-one, c.fixed_step-state.ensures, c.loop-key.invariant.1))
-
-pub returns : goal.returns
-returns c = let e : c.loop-key.key ≡ key_count = omega arith in rw (← e) c.loop-key.invariant.1
+loop-key-preserved c = rw (add-one, ← c.loop-key.invariant) (sym c.in_ok-placed.was ∙ c.fixed_step.ensures)

@@ -3,5 +3,5 @@ use native.Mathlib.Omega.{arith}
 use Rattle.placement.proofs.Skips.{aligned_nothing}
 use Rattle.placement.proofs.search.align_past.Goals as goal
 
-pub returns-then-range : goal.returns-then-range
-returns-then-range c = aligned_nothing _ _ (λ b h k m. omega arith)
+pub returns-in_err-end : goal.returns-in_err-end
+returns-in_err-end c = rw c.from_residual.ensures (aligned_nothing _ _ (λ b h k m. c.in_err-end.ensures (omega arith)))
