@@ -1,7 +1,8 @@
 -- What a checked access is: aligned, in the space, and inside one dword.
+use Rattle.std.specs.Prelude.{Ok, Err}
 use Prim.Native.Nat.{ℕ, ◌+◌, ◌-◌, ◌/◌, ◌%◌, ◌<◌, ◌≤◌}
-use mathlib.Core.Bool.{Bool, true, false, ◌&&◌, cond, and-false}
-use mathlib.Core.Path.{◌≡◌, refl}
+use mathlib.Core.Bool.{true, false, ◌&&◌, and-false}
+use mathlib.Core.Path.{◌≡◌, ap}
 use borrow.Author.Tests.{lt-ltb, le-ltb, eq-eqb, ne_eqb, ltb-true, eqb-true}
 use native.Mathlib.Omega.{arith}
 use lib.Dec.{ltb, eqb}
@@ -9,9 +10,12 @@ use Rattle.word.specs.Width.{width_ok}
 use Rattle.word.proofs.Tests.{and_left, and_right}
 use Rattle.word.proofs.Widths.{by_width, width_pos, width_most}
 use Rattle.address.specs.Kinds.{offset}
-use Rattle.address.specs.Check.{most_width, access_ok, access_of}
+use Rattle.address.specs.Check.{most_width, access_ok, access, access_of}
 use Rattle.address.specs.declared.offset.ConfigOffset.{ConfigOffset}
-use Rattle.address.specs.declared.access.Access.TheVariants as access
+use Rattle.address.specs.declared.access.Access.{Access}
+use Rattle.refusal.proofs.Choices.{was_ok, was_refused}
+use Rattle.refusal.specs.declared.refusal.Refusal.{Refusal}
+use Rattle.refusal.specs.declared.refusal.Refusal.TheVariants as refusal
 
 -- what the check says of an access that it lets pass
 pub record Aligned (space o w : ℕ) : Type 0 where
@@ -30,33 +34,36 @@ pub aligned_ok : (space o w : ℕ) → Aligned space o w → access_ok space o w
 unfolding access_ok
 aligned_ok space o w a = rw (a.known, lt-ltb o space a.below, eq-eqb (o % w) 0 a.multiple)
 
-by_test : (t : Bool) (a w : ℕ) (o : ConfigOffset) (u : ℕ) → cond t (access.Good (offset a) w) access.Refused ≡ access.Good o u → (o ≡ offset a) × (u ≡ w) × (t ≡ true)
-by_test true a w o u e = (cc, cc, refl)
-by_test false a w o u e = let z : ◌≡◌ {A = ℕ} 0 1 = cc in absurd (omega arith)
-
 -- what `check` calls good is aligned, and is what was asked
-pub access_is : (space a w : ℕ) (o : ConfigOffset) (u : ℕ) → access_of space a w ≡ access.Good o u → Aligned space a w × (o ≡ offset a) × (u ≡ w)
+pub access_is : (space a w : ℕ) (o : ConfigOffset) (u : ℕ) → access_of space a w ≡ Ok (access o u) → Aligned space a w × (o ≡ offset a) × (u ≡ w)
 unfolding access_of
-access_is space a w o u e = let r = by_test (access_ok space a w) a w o u e in (ok_aligned space a w r.2, r.0, r.1)
+access_is space a w o u e =
+    let r = was_ok (access_ok space a w) (access (offset a) w) (access o u) refusal.BadAccess e in
+    (ok_aligned space a w r.1, ap (λ (x : Access). x.offset) r.0, ap (λ (x : Access). x.width) r.0)
 
-pub access_good : (space a w : ℕ) → Aligned space a w → access_of space a w ≡ access.Good (offset a) w
+pub access_good : (space a w : ℕ) → Aligned space a w → access_of space a w ≡ Ok (access (offset a) w)
 unfolding access_of
 access_good space a w g = rw (aligned_ok space a w g)
 
-pub access_refused : (space a w : ℕ) → access_ok space a w ≡ false → access_of space a w ≡ access.Refused
+pub access_refused : (space a w : ℕ) → access_ok space a w ≡ false → access_of space a w ≡ Err refusal.BadAccess
 unfolding access_of
 access_refused space a w e = rw e
 
+-- there is one refusal
+pub access_err : (space a w : ℕ) (r : Refusal) → access_of space a w ≡ Err r → r ≡ refusal.BadAccess
+unfolding access_of
+access_err space a w r e = (was_refused (access_ok space a w) (access (offset a) w) refusal.BadAccess r e).0
+
 -- refused for its width, for its offset, for its alignment
-pub refused_width : (space a w : ℕ) → width_ok most_width w ≡ false → access_of space a w ≡ access.Refused
+pub refused_width : (space a w : ℕ) → width_ok most_width w ≡ false → access_of space a w ≡ Err refusal.BadAccess
 unfolding access_ok
 refused_width space a w e = access_refused space a w (rw e)
 
-pub refused_offset : (space a w : ℕ) → space ≤ a → access_of space a w ≡ access.Refused
+pub refused_offset : (space a w : ℕ) → space ≤ a → access_of space a w ≡ Err refusal.BadAccess
 unfolding access_ok
 refused_offset space a w h = access_refused space a w (rw (le-ltb a space h) (and-false (width_ok most_width w)))
 
-pub refused_multiple : (space a w : ℕ) → (a % w ≡ 0 → ⊥) → access_of space a w ≡ access.Refused
+pub refused_multiple : (space a w : ℕ) → (a % w ≡ 0 → ⊥) → access_of space a w ≡ Err refusal.BadAccess
 unfolding access_ok
 refused_multiple space a w h = access_refused space a w (rw (ne_eqb (a % w) 0 h, and-false (ltb a space)) (and-false (width_ok most_width w)))
 

@@ -8,5 +8,5 @@ mod offset;
 mod slot;
 
 pub use access::{Access, check};
-pub use offset::{ConfigOffset, OffsetAnswer};
-pub use slot::{Slot, SlotAnswer};
+pub use offset::ConfigOffset;
+pub use slot::Slot;

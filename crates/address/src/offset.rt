@@ -3,24 +3,18 @@ ghost use Rattle.std.specs.Prelude.{◌≡◌};
 ghost use Rattle.address.specs.Kinds.{offset, offset_of};
 
 #[repr(C)]
-#[derive(Clone, Copy)]
+#[derive(Clone, Copy, Debug, PartialEq, Eq, PartialOrd, Ord)]
 pub struct ConfigOffset(u16);
-
-#[derive(Clone, Copy)]
-pub enum OffsetAnswer {
-    Good(ConfigOffset),
-    Bad,
-}
 
 impl ConfigOffset {
     // An offset in a config space of `space` bytes.
-    pub fn new(space: u16, value: usize) -> OffsetAnswer
+    pub fn new(space: u16, value: usize) -> Option<ConfigOffset>
         ensures { result ≡ offset_of space value }
     {
         if value < space as usize {
-            OffsetAnswer::Good(ConfigOffset(value as u16))
+            Some(ConfigOffset(value as u16))
         } else {
-            OffsetAnswer::Bad
+            None
         }
     }
 

@@ -1,39 +1,22 @@
 // A BAR slot, 0 to 5.
 ghost use Rattle.std.specs.Prelude.{◌≡◌};
-ghost use Rattle.address.specs.Kinds.{slot, slot_of, slot_number, index_of, register_of};
+ghost use Rattle.address.specs.Kinds.{slot, slot_of, index_of, register_of};
 
 use crate::config_layout::{BAR_COUNT, CONFIG_BAR_REGISTER_SIZE, CONFIG_BAR_START};
+use refusal::Refusal;
 
 #[repr(C)]
-#[derive(Clone, Copy)]
+#[derive(Clone, Copy, Debug, PartialEq, Eq, PartialOrd, Ord)]
 pub struct Slot(u8);
 
-#[derive(Clone, Copy)]
-pub enum SlotAnswer {
-    Good(Slot),
-    Bad,
-}
-
-impl SlotAnswer {
-    // Document 01's number for the answer.
-    pub fn number(self) -> u8
-        ensures { result ≡ slot_number self }
-    {
-        match self {
-            SlotAnswer::Good(_) => refusal::ACCEPTED,
-            SlotAnswer::Bad => refusal::BAD_DEVICE_OR_SLOT,
-        }
-    }
-}
-
 impl Slot {
-    pub fn new(value: u8) -> SlotAnswer
+    pub fn new(value: u8) -> Result<Slot, Refusal>
         ensures { result ≡ slot_of value }
     {
         if value < BAR_COUNT {
-            SlotAnswer::Good(Slot(value))
+            Ok(Slot(value))
         } else {
-            SlotAnswer::Bad
+            Err(Refusal::BadDeviceOrSlot)
         }
     }
 

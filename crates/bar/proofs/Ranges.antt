@@ -1,7 +1,8 @@
 -- Ranges: what it means to meet, to lie in the aperture, to be a multiple.
+use Rattle.std.specs.Prelude.{Ok, Err}
 use Prim.Native.Nat.{ℕ, ◌-◌, ◌%◌, ◌<◌, ◌≤◌, min, max}
-use mathlib.Core.Bool.{Bool, true, false, ◌&&◌, cond, and-false}
-use mathlib.Core.Path.{◌≡◌, refl}
+use mathlib.Core.Bool.{true, false, ◌&&◌, and-false}
+use mathlib.Core.Path.{◌≡◌}
 use borrow.Author.Tests.{lt-ltb, le-ltb, le-leb, lt-leb, eq-eqb, ltb-true, leb-true, eqb-true}
 use native.Mathlib.Omega.{arith}
 use lib.Dec.{ltb, leb}
@@ -10,7 +11,9 @@ use Rattle.word.proofs.Intervals.{covers_in, covers_within, Meeting, overlap_mee
 use Rattle.bar.specs.Range.{end_of, multiple, lies_in, meets, aperture_of}
 use Rattle.bar.specs.declared.range.Range.{Range}
 use Rattle.bar.specs.declared.range.Aperture.{Aperture}
-use Rattle.bar.specs.declared.range.ApertureAnswer.TheVariants as aperture_answer
+use Rattle.refusal.proofs.Choices.{was_ok, was_refused}
+use Rattle.refusal.specs.declared.refusal.Refusal.{Refusal}
+use Rattle.refusal.specs.declared.refusal.Refusal.TheVariants as refusal
 
 -- an address of a range
 pub record In (r : Range) (x : ℕ) : Type 0 where
@@ -97,24 +100,24 @@ unfolding multiple
 zero_multiple r e = eq-eqb (r.start % r.size) 0 e
 
 -- what an accepted aperture is
-pub aperture_good : (most start end : ℕ) → start < end → end ≤ most → aperture_of most start end ≡ aperture_answer.Good (record { start = start; end = end })
+pub aperture_good : (most start end : ℕ) → start < end → end ≤ most → aperture_of most start end ≡ Ok (record { start = start; end = end })
 unfolding aperture_of
 aperture_good most start end h k = rw (lt-ltb start end h, le-leb end most k)
 
-pub aperture_empty : (most start end : ℕ) → end ≤ start → aperture_of most start end ≡ aperture_answer.Bad
+pub aperture_empty : (most start end : ℕ) → end ≤ start → aperture_of most start end ≡ Err refusal.BadAperture
 unfolding aperture_of
 aperture_empty most start end h = rw (le-ltb start end h)
 
-pub aperture_past : (most start end : ℕ) → most < end → aperture_of most start end ≡ aperture_answer.Bad
+pub aperture_past : (most start end : ℕ) → most < end → aperture_of most start end ≡ Err refusal.BadAperture
 unfolding aperture_of
 aperture_past most start end h = rw (lt-leb end most h, and-false (ltb start end))
 
-by_test : (t : Bool) (a b : Aperture) → cond t (aperture_answer.Good a) aperture_answer.Bad ≡ aperture_answer.Good b → (b ≡ a) × (t ≡ true)
-by_test true a b e = (cc, refl)
-by_test false a b e = let z : ◌≡◌ {A = ℕ} 0 1 = cc in absurd (omega arith)
-
-pub aperture_is : (most start end : ℕ) (a : Aperture) → aperture_of most start end ≡ aperture_answer.Good a → (a ≡ record { start = start; end = end }) × (start < end) × (end ≤ most)
+pub aperture_is : (most start end : ℕ) (a : Aperture) → aperture_of most start end ≡ Ok a → (a ≡ record { start = start; end = end }) × (start < end) × (end ≤ most)
 unfolding aperture_of
 aperture_is most start end a e =
-    let r = by_test (ltb start end && leb end most) (record { start = start; end = end }) a e in
+    let r = was_ok (ltb start end && leb end most) (record { start = start; end = end }) a refusal.BadAperture e in
     (r.0, ltb-true start end (and_left (ltb start end) (leb end most) r.1), leb-true end most (and_right (ltb start end) (leb end most) r.1))
+
+pub aperture_refused : (most start end : ℕ) (r : Refusal) → aperture_of most start end ≡ Err r → (r ≡ refusal.BadAperture) × (ltb start end && leb end most ≡ false)
+unfolding aperture_of
+aperture_refused most start end r e = was_refused (ltb start end && leb end most) (record { start = start; end = end }) refusal.BadAperture r e

@@ -1,8 +1,9 @@
 -- The size rule: from the least to the largest, a power of two.
+use Rattle.std.specs.Prelude.{Ok, Err}
 use Prim.Native.Nat.{ℕ, ◌+◌, ◌^◌, ◌<◌, ◌≤◌}
-use mathlib.Core.Bool.{Bool, true, false, ◌&&◌, cond, and-false}
+use mathlib.Core.Bool.{true, false, ◌&&◌, and-false}
 use mathlib.Core.Logic.{⊎_elim}
-use mathlib.Core.Path.{◌≡◌, refl, sym, ◌∙◌}
+use mathlib.Core.Path.{◌≡◌, sym, ◌∙◌}
 use borrow.Author.Tests.{le-leb, lt-leb, eq-eqb, leb-true, eqb-true}
 use native.Mathlib.Omega.{arith}
 use lib.Dec.{leb, eqb}
@@ -13,7 +14,9 @@ use Rattle.address.specs.declared.slot.Slot.{Slot}
 use Rattle.bar.specs.Bar.{power_of_two, least_size, most_size, size_ok, Sized, memory_bar, bar_of}
 use Rattle.bar.specs.declared.memory_bar.Request.{Request}
 use Rattle.bar.specs.declared.memory_bar.MemoryBar.{MemoryBar}
-use Rattle.bar.specs.declared.memory_bar.BarAnswer.TheVariants as bar_answer
+use Rattle.refusal.proofs.Choices.{was_ok, was_refused}
+use Rattle.refusal.specs.declared.refusal.Refusal.{Refusal}
+use Rattle.refusal.specs.declared.refusal.Refusal.TheVariants as refusal
 
 -- an exponent of a 64-bit power is below 64
 pub exponent_lt : (k p : ℕ) → p ≡ 2 ^ k → p < 2 ^ 64 → k < 64
@@ -68,19 +71,20 @@ pub size_by_power : (size : ℕ) → least_size ≤ size → size ≤ most_size 
 unfolding size_ok
 size_by_power size h k = rw (le-leb least_size size h, le-leb size most_size k)
 
-pub bar_good : (s : Slot) (size : ℕ) (r : Request) → size_ok size ≡ true → bar_of s size r ≡ bar_answer.Good (memory_bar s size r)
+pub bar_good : (s : Slot) (size : ℕ) (r : Request) → size_ok size ≡ true → bar_of s size r ≡ Ok (memory_bar s size r)
 unfolding bar_of
 bar_good s size r e = rw e
 
-pub bar_bad : (s : Slot) (size : ℕ) (r : Request) → size_ok size ≡ false → bar_of s size r ≡ bar_answer.Bad
+pub bar_bad : (s : Slot) (size : ℕ) (r : Request) → size_ok size ≡ false → bar_of s size r ≡ Err refusal.BadSize
 unfolding bar_of
 bar_bad s size r e = rw e
 
-by_test : (t : Bool) (b d : MemoryBar) → cond t (bar_answer.Good b) bar_answer.Bad ≡ bar_answer.Good d → (d ≡ b) × (t ≡ true)
-by_test true b d e = (cc, refl)
-by_test false b d e = let z : ◌≡◌ {A = ℕ} 0 1 = cc in absurd (omega arith)
-
 -- a BAR that was made has a size by the rule
-pub bar_is : (s : Slot) (size : ℕ) (r : Request) (b : MemoryBar) → bar_of s size r ≡ bar_answer.Good b → (b ≡ memory_bar s size r) × Sized size
+pub bar_is : (s : Slot) (size : ℕ) (r : Request) (b : MemoryBar) → bar_of s size r ≡ Ok b → (b ≡ memory_bar s size r) × Sized size
 unfolding bar_of
-bar_is s size r b e = let q = by_test (size_ok size) (memory_bar s size r) b e in (q.0, ok_size size q.1)
+bar_is s size r b e = let q = was_ok (size_ok size) (memory_bar s size r) b refusal.BadSize e in (q.0, ok_size size q.1)
+
+-- and one that was refused has none
+pub bar_refused : (s : Slot) (size : ℕ) (q : Request) (r : Refusal) → bar_of s size q ≡ Err r → (r ≡ refusal.BadSize) × (size_ok size ≡ false)
+unfolding bar_of
+bar_refused s size q r e = was_refused (size_ok size) (memory_bar s size q) refusal.BadSize r e

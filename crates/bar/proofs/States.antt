@@ -1,4 +1,5 @@
 -- A BAR's state: addresses stay below 4 GiB (the Rust's debug_assert), the plan stays, and what a write and a read of a whole register give.
+use Rattle.std.specs.Prelude.{Some, None}
 use Prim.Native.Nat.{ℕ, ◌%◌, ◌<◌}
 use mathlib.Core.Bool.{Bool, true, false}
 use mathlib.Core.Path.{◌≡◌, refl, ap, ◌∙◌}
@@ -12,7 +13,6 @@ use Rattle.bar.specs.State.{fresh, reset_of, shown, asks, probed, relocated}
 use Rattle.bar.specs.declared.bar_state.Plan.{Plan}
 use Rattle.bar.specs.declared.bar_state.BarState.{BarState}
 use Rattle.bar.specs.declared.bar_state.BarWrite.TheVariants as bar_write
-use Rattle.bar.specs.declared.bar_state.Relocation.TheVariants as relocation
 use Rattle.bar.proofs.Registers.{candidate_address, address_lt, address_candidate, committed_lt, mask_lt, class_is, class_probe, class_relocate, all_ones_probe}
 
 pub fresh_bounded : (p : Plan) → p.address < four_gib → Bounded (fresh p)
@@ -21,10 +21,10 @@ fresh_bounded p h = record { now = h; placed = h }
 pub probed_bounded : (b : BarState) → Bounded b → Bounded (probed b)
 probed_bounded b h = record { now = h.now; placed = h.placed }
 
-pub kept_bounded : (b : BarState) → Bounded b → Bounded (relocated b relocation.Kept)
+pub kept_bounded : (b : BarState) → Bounded b → Bounded (relocated b None)
 kept_bounded b h = record { now = h.now; placed = h.placed }
 
-pub accepted_bounded : (b : BarState) (a : ℕ) → a < four_gib → Bounded b → Bounded (relocated b (relocation.Accepted a))
+pub accepted_bounded : (b : BarState) (a : ℕ) → a < four_gib → Bounded b → Bounded (relocated b (Some a))
 accepted_bounded b a l h = record { now = l; placed = h.placed }
 
 pub reset_bounded : (b : BarState) → Bounded b → Bounded (reset_of b)

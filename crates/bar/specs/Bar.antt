@@ -1,6 +1,5 @@
 -- A declared BAR: its slot, its size, and where it is asked for (document 01, tag 4).
-use Rattle.std.specs.Prelude.{ℕ, ◌^◌, ◌≤◌, Bool, ◌&&◌, cond, ◌≡◌, leb, eqb}
-use Rattle.refusal.specs.Number.{accepted, bad_size}
+use Rattle.std.specs.Prelude.{ℕ, ◌^◌, ◌≤◌, Bool, ◌&&◌, cond, ◌≡◌, leb, eqb, Result, Ok, Err}
 use Rattle.word.specs.Search.{any_below}
 use Rattle.address.specs.Kinds.{slot}
 use Rattle.address.specs.declared.slot.Slot.{Slot}
@@ -8,8 +7,8 @@ use Rattle.bar.specs.Range.{four_gib}
 use Rattle.bar.specs.declared.memory_bar.Request.{Request}
 use Rattle.bar.specs.declared.memory_bar.Request.TheVariants as request
 use Rattle.bar.specs.declared.memory_bar.MemoryBar.{MemoryBar}
-use Rattle.bar.specs.declared.memory_bar.BarAnswer.{BarAnswer}
-use Rattle.bar.specs.declared.memory_bar.BarAnswer.TheVariants as bar_answer
+use Rattle.refusal.specs.declared.refusal.Refusal.TheVariants as refusal
+use Rattle.refusal.specs.declared.refusal.Refusal.{Refusal}
 
 -- 2 ^ k for some k below 64
 unfoldable pub power_of_two : ℕ → Bool
@@ -36,13 +35,8 @@ pub record Sized (size : ℕ) : Type 0 where
 abbrev pub memory_bar : Slot → ℕ → Request → MemoryBar
 memory_bar s size r = record { slot = s; size = size; request = r }
 
-unfoldable pub bar_of : Slot → ℕ → Request → BarAnswer
-bar_of s size r = cond (size_ok size) (bar_answer.Good (memory_bar s size r)) bar_answer.Bad
-
--- document 01's number for each answer
-abbrev pub bar_number : BarAnswer → ℕ
-bar_number (bar_answer.Good b) = accepted
-bar_number bar_answer.Bad = bad_size
+unfoldable pub bar_of : Slot → ℕ → Request → Result MemoryBar Refusal
+bar_of s size r = cond (size_ok size) (Ok (memory_bar s size r)) (Err refusal.BadSize)
 
 -- no BAR: what stands past the last one of a list, and in an empty slot
 abbrev pub no_bar : MemoryBar

@@ -1,11 +1,10 @@
 -- Ranges of addresses, for placement, relocation and lookup alike. Sums are of natural numbers, so no range wraps.
-use Rattle.std.specs.Prelude.{ℕ, ◌+◌, ◌%◌, ◌^◌, Bool, ◌&&◌, cond, ltb, leb, eqb}
-use Rattle.refusal.specs.Number.{accepted, bad_aperture}
+use Rattle.std.specs.Prelude.{ℕ, ◌+◌, ◌%◌, ◌^◌, Bool, ◌&&◌, cond, ltb, leb, eqb, Result, Ok, Err}
 use Rattle.word.specs.Interval.{overlap}
 use Rattle.bar.specs.declared.range.Range.{Range}
 use Rattle.bar.specs.declared.range.Aperture.{Aperture}
-use Rattle.bar.specs.declared.range.ApertureAnswer.{ApertureAnswer}
-use Rattle.bar.specs.declared.range.ApertureAnswer.TheVariants as aperture_answer
+use Rattle.refusal.specs.declared.refusal.Refusal.TheVariants as refusal
+use Rattle.refusal.specs.declared.refusal.Refusal.{Refusal}
 
 -- 4 GiB, where 32-bit addresses end
 abbrev pub four_gib : ℕ
@@ -34,11 +33,6 @@ meets r s = overlap r.start r.size s.start s.size
 abbrev pub aperture_ok : ℕ → ℕ → ℕ → Bool
 aperture_ok most start end = ltb start end && leb end most
 
-unfoldable pub aperture_of : ℕ → ℕ → ℕ → ApertureAnswer
+unfoldable pub aperture_of : ℕ → ℕ → ℕ → Result Aperture Refusal
 aperture_of most start end =
-    cond (aperture_ok most start end) (aperture_answer.Good (record { start = start; end = end })) aperture_answer.Bad
-
--- document 01's number for each answer
-abbrev pub aperture_number : ApertureAnswer → ℕ
-aperture_number (aperture_answer.Good a) = accepted
-aperture_number aperture_answer.Bad = bad_aperture
+    cond (aperture_ok most start end) (Ok (record { start = start; end = end })) (Err refusal.BadAperture)

@@ -1,5 +1,5 @@
 -- A BAR's state and its steps (document 01, "Access and reset").
-use Rattle.std.specs.Prelude.{ℕ, Bool, true, false, cond}
+use Rattle.std.specs.Prelude.{ℕ, Bool, true, false, cond, Option, Some, None}
 use Rattle.word.specs.Number.{merge}
 use Rattle.address.specs.Kinds.{slot}
 use Rattle.bar.specs.Range.{range}
@@ -8,8 +8,6 @@ use Rattle.bar.specs.declared.range.Range.{Range}
 use Rattle.bar.specs.declared.bar_state.Plan.{Plan}
 use Rattle.bar.specs.declared.bar_state.BarState.{BarState}
 use Rattle.bar.specs.declared.bar_state.BarWrite.{BarWrite}
-use Rattle.bar.specs.declared.bar_state.Relocation.{Relocation}
-use Rattle.bar.specs.declared.bar_state.Relocation.TheVariants.{Accepted, Kept}
 
 abbrev pub state : Plan → ℕ → Bool → BarState
 state p address probing = record { plan = p; address = address; probing = probing }
@@ -38,9 +36,9 @@ abbrev pub probed : BarState → BarState
 probed b = state b.plan b.address true
 
 -- "Otherwise probing ends"; the address is the accepted one, or "stays"
-abbrev pub relocated : BarState → Relocation → BarState
-relocated b (Accepted a) = state b.plan a false
-relocated b Kept = state b.plan b.address false
+abbrev pub relocated : BarState → Option ℕ → BarState
+relocated b (Some a) = state b.plan a false
+relocated b None = state b.plan b.address false
 
 -- the committed range
 abbrev pub range_of : BarState → Range

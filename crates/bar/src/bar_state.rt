@@ -9,7 +9,7 @@ use address::Slot;
 
 // Where a BAR was placed. A size of 0 is no BAR.
 #[repr(C)]
-#[derive(Clone, Copy)]
+#[derive(Clone, Copy, Debug, PartialEq, Eq)]
 pub struct Plan {
     pub slot: Slot,
     pub size: u64,
@@ -17,7 +17,7 @@ pub struct Plan {
 }
 
 #[repr(C)]
-#[derive(Clone, Copy)]
+#[derive(Clone, Copy, Debug, PartialEq, Eq)]
 pub struct BarState {
     pub plan: Plan,
     pub address: u64,
@@ -25,17 +25,10 @@ pub struct BarState {
 }
 
 // What a write to a BAR's register asks for.
-#[derive(Clone, Copy)]
+#[derive(Clone, Copy, Debug, PartialEq, Eq)]
 pub enum BarWrite {
     Probe,
     Relocate(u64),
-}
-
-// Whether the candidate of a relocation was accepted.
-#[derive(Clone, Copy)]
-pub enum Relocation {
-    Accepted(u64),
-    Kept,
 }
 
 impl BarState {
@@ -102,18 +95,16 @@ impl BarState {
         }
     }
 
-    pub fn finish_relocation(self, relocation: Relocation) -> BarState
-        ensures { result ≡ relocated self relocation }
+    // Ends probing, at the address that was accepted or where the BAR stands.
+    pub fn finish_relocation(self, accepted: Option<u64>) -> BarState
+        ensures { result ≡ relocated self accepted }
     {
         let mut out = self;
         out.probing = false;
-        match relocation {
-            Relocation::Accepted(address) => {
-                out.address = address;
-                out
-            }
-            Relocation::Kept => out,
+        if let Some(address) = accepted {
+            out.address = address;
         }
+        out
     }
 
     pub fn reset(self) -> BarState

@@ -6,7 +6,7 @@ mod memory_bar;
 mod range;
 mod register;
 
-pub use bar_state::{BarState, BarWrite, Plan, Relocation};
-pub use memory_bar::{BarAnswer, MemoryBar, Request, size_ok};
-pub use range::{Aperture, ApertureAnswer, Range};
+pub use bar_state::{BarState, BarWrite, Plan};
+pub use memory_bar::{MemoryBar, Request, size_ok};
+pub use range::{Aperture, Range};
 pub use register::{candidate_address, committed_dword, size_mask, starts_probe};

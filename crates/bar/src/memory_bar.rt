@@ -1,39 +1,22 @@
 // A BAR as it is declared.
 ghost use Rattle.std.specs.Prelude.{◌≡◌};
-ghost use Rattle.bar.specs.Bar.{size_ok, bar_of, bar_number, no_bar};
+ghost use Rattle.bar.specs.Bar.{size_ok, bar_of, no_bar};
 
 use crate::range::FOUR_GIB;
 use address::Slot;
+use refusal::Refusal;
 
-#[derive(Clone, Copy)]
+#[derive(Clone, Copy, Debug, PartialEq, Eq)]
 pub enum Request {
     Auto,
     Fixed(u64),
 }
 
-#[derive(Clone, Copy)]
+#[derive(Clone, Copy, Debug, PartialEq, Eq)]
 pub struct MemoryBar {
     slot: Slot,
     size: u64,
     request: Request,
-}
-
-#[derive(Clone, Copy)]
-pub enum BarAnswer {
-    Good(MemoryBar),
-    Bad,
-}
-
-impl BarAnswer {
-    // Document 01's number for the answer.
-    pub fn number(self) -> u8
-        ensures { result ≡ bar_number self }
-    {
-        match self {
-            BarAnswer::Good(_) => refusal::ACCEPTED,
-            BarAnswer::Bad => refusal::BAD_SIZE,
-        }
-    }
 }
 
 const LEAST_SIZE: u64 = 16;
@@ -58,18 +41,18 @@ pub fn size_ok(size: u64) -> bool
 }
 
 impl MemoryBar {
-    pub fn new(slot: Slot, size: u64, request: Request) -> BarAnswer
+    pub fn new(slot: Slot, size: u64, request: Request) -> Result<MemoryBar, Refusal>
         ensures { result ≡ bar_of slot size request }
     {
         let good = size_ok(size);
         if good {
-            BarAnswer::Good(MemoryBar {
+            Ok(MemoryBar {
                 slot,
                 size,
                 request,
             })
         } else {
-            BarAnswer::Bad
+            Err(Refusal::BadSize)
         }
     }
 

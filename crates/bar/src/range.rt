@@ -1,12 +1,14 @@
 // Ranges of addresses and the aperture that they must lie in.
 ghost use Rattle.std.specs.Prelude.{◌≡◌};
-ghost use Rattle.bar.specs.Range.{multiple, lies_in, meets, aperture_of, aperture_number, four_gib};
+ghost use Rattle.bar.specs.Range.{multiple, lies_in, meets, aperture_of, four_gib};
+
+use refusal::Refusal;
 
 pub const FOUR_GIB: u64 = 0x1_0000_0000;
 
 // `size` addresses from `start` on.
 #[repr(C)]
-#[derive(Clone, Copy)]
+#[derive(Clone, Copy, Debug, PartialEq, Eq)]
 pub struct Range {
     pub start: u64,
     pub size: u64,
@@ -14,41 +16,23 @@ pub struct Range {
 
 // The addresses from `start` up to `end`.
 #[repr(C)]
-#[derive(Clone, Copy)]
+#[derive(Clone, Copy, Debug, PartialEq, Eq)]
 pub struct Aperture {
     pub start: u64,
     pub end: u64,
 }
 
-#[derive(Clone, Copy)]
-pub enum ApertureAnswer {
-    Good(Aperture),
-    Bad,
-}
-
-impl ApertureAnswer {
-    // Document 01's number for the answer.
-    pub fn number(self) -> u8
-        ensures { result ≡ aperture_number self }
-    {
-        match self {
-            ApertureAnswer::Good(_) => refusal::ACCEPTED,
-            ApertureAnswer::Bad => refusal::BAD_APERTURE,
-        }
-    }
-}
-
 impl Aperture {
     // An aperture is not empty and ends at 4 GiB at most.
-    pub fn new(start: u64, end: u64) -> ApertureAnswer
+    pub fn new(start: u64, end: u64) -> Result<Aperture, Refusal>
         ensures { result ≡ aperture_of four_gib start end }
     {
         if start < end {
             if end <= FOUR_GIB {
-                return ApertureAnswer::Good(Aperture { start, end });
+                return Ok(Aperture { start, end });
             }
         }
-        ApertureAnswer::Bad
+        Err(Refusal::BadAperture)
     }
 }
 

@@ -1,4 +1,5 @@
 -- Acceptance exactly: a candidate is accepted if and only if it is a multiple of its size, lies in the aperture and meets the committed range of no other function's or slot's BAR; the answer says which.
+use Rattle.std.specs.Prelude.{Option, Some, None}
 use Prim.Native.Nat.{ℕ, ◌/◌, ◌%◌, ◌<◌, ◌≤◌}
 use mathlib.Core.Bool.{true, false}
 use mathlib.Core.Logic.{⊎_elim}
@@ -13,8 +14,6 @@ use Rattle.word.proofs.Tests.{below_or_not, same_or_not, true_or_false, both}
 use Rattle.address.specs.Layout.{bar_count}
 use Rattle.bar.specs.Range.{meets}
 use Rattle.bar.specs.State.{no_state, relocated}
-use Rattle.bar.specs.declared.bar_state.Relocation.{Relocation}
-use Rattle.bar.specs.declared.bar_state.Relocation.TheVariants as relocation
 use Rattle.bar.specs.declared.range.Range.{Range}
 use Rattle.bar.proofs.Ranges.{empty_second}
 use Rattle.config.specs.Write.{write_of, relocated_in}
@@ -91,7 +90,7 @@ module _ (b : Bus) (k i a : ℕ) (t : k < count_on b) (l : i < bar_count) where
 
   -- so the answer says which, and the BAR is there
   module _ (m : k < length b.functions) (n : i < length (function_at b k).bars) where
-    bar_after : (r : Relocation) → bar_in (with_function b k (relocated_in (function_at b k) i r)) k i ≡ relocated (bar_in b k i) r
+    bar_after : (r : Option ℕ) → bar_in (with_function b k (relocated_in (function_at b k) i r)) k i ≡ relocated (bar_in b k i) r
     bar_after r =
         rw (get_or-set_same b.functions k (relocated_in (function_at b k) i r) no_function_state m, get_or-set_same (function_at b k).bars i (relocated (bar_in b k i) r) no_state n)
 
@@ -102,7 +101,7 @@ module _ (b : Bus) (k i a : ℕ) (t : k < count_on b) (l : i < bar_count) where
         let c = accepts_acceptable e in
         rw e
         (record {
-          moved = λ o. record { says = refl; committed = rw (bar_after (relocation.Accepted a)); ends = rw (bar_after (relocation.Accepted a)) };
+          moved = λ o. record { says = refl; committed = rw (bar_after (Some a)); ends = rw (bar_after (Some a)) };
           kept = λ o. absurd (o c);
           moved_only = λ slot address q. c;
           kept_only = λ slot address q. let z : ◌≡◌ {A = ℕ} 0 1 = cc in absurd (omega arith);
@@ -111,7 +110,7 @@ module _ (b : Bus) (k i a : ℕ) (t : k < count_on b) (l : i < bar_count) where
         rw e
         (record {
           moved = λ o. absurd (both (acceptable_accepts o) e);
-          kept = λ o. record { says = refl; committed = rw (bar_after relocation.Kept); ends = rw (bar_after relocation.Kept) };
+          kept = λ o. record { says = refl; committed = rw (bar_after None); ends = rw (bar_after None) };
           moved_only = λ slot address q. let z : ◌≡◌ {A = ℕ} 0 1 = cc in absurd (omega arith);
           kept_only = λ slot address q o. both (acceptable_accepts o) e;
         }))

@@ -1,4 +1,5 @@
 -- What a write by device can answer and leave: five cases. Whatever is shown of these holds of every write.
+use Rattle.std.specs.Prelude.{Some, None, Result, Ok, Err}
 use Prim.Native.Nat.{ℕ, ◌<◌, ◌≤◌}
 use mathlib.Core.Bool.{true, false}
 use mathlib.Core.Logic.{⊎_elim}
@@ -7,8 +8,6 @@ use Rattle.word.proofs.Tests.{below_or_not, true_or_false}
 use Rattle.address.specs.Layout.{config_space_size, bar_count}
 use Rattle.address.specs.Check.{access_of}
 use Rattle.address.specs.declared.access.Access.{Access}
-use Rattle.address.specs.declared.access.Access.TheVariants as access
-use Rattle.bar.specs.declared.bar_state.Relocation.TheVariants as relocation
 use Rattle.capability.specs.declared.snapshot.Snapshot.{Snapshot}
 use Rattle.config.specs.State.{bar_at, no_body}
 use Rattle.config.specs.Write.{write_of, relocated_in}
@@ -22,14 +21,15 @@ use Rattle.bus.specs.declared.write_access.BusWriteAnswer.TheVariants.{Stored, D
 use Rattle.bus.specs.declared.write_access.BusWriteDone.{BusWriteDone}
 use Rattle.bus.proofs.Candidates.{candidate_slot}
 use Rattle.bus.proofs.Dispatch.{write_declared, write_absent}
+use Rattle.refusal.specs.declared.refusal.Refusal.{Refusal}
 
 -- what has to be shown of a write: one clause a case
 pub record Shown (P : BusWriteDone → Type 0) (b : Bus) (o w v : ℕ) : Type 0 where
   pub still : (a : BusWriteAnswer) (body : Snapshot) → changes a ≡ false → P (bus_done a body b)
   pub stored : (k : ℕ) (body : Snapshot) → k < count_on b → P (bus_done Stored body (with_function b k (write_of (function_at b k) o w v).state))
   pub probing : (k i : ℕ) (body : Snapshot) → k < count_on b → P (bus_done (Probing i) body (with_function b k (write_of (function_at b k) o w v).state))
-  pub moved : (k i a : ℕ) → k < count_on b → i < bar_count → accepts b k i a ≡ true → P (bus_done (Moved i a) no_body (with_function b k (relocated_in (function_at b k) i (relocation.Accepted a))))
-  pub kept : (k i a : ℕ) → k < count_on b → i < bar_count → accepts b k i a ≡ false → P (bus_done (Kept i (bar_at (function_at b k).bars i).address) no_body (with_function b k (relocated_in (function_at b k) i relocation.Kept)))
+  pub moved : (k i a : ℕ) → k < count_on b → i < bar_count → accepts b k i a ≡ true → P (bus_done (Moved i a) no_body (with_function b k (relocated_in (function_at b k) i (Some a))))
+  pub kept : (k i a : ℕ) → k < count_on b → i < bar_count → accepts b k i a ≡ false → P (bus_done (Kept i (bar_at (function_at b k).bars i).address) no_body (with_function b k (relocated_in (function_at b k) i None)))
 
 module _ (P : BusWriteDone → Type 0) (b : Bus) (o w v : ℕ) (s : Shown P b o w v) where
   module _ (k : ℕ) (h : k < count_on b) where
@@ -49,9 +49,9 @@ module _ (P : BusWriteDone → Type 0) (b : Bus) (o w v : ℕ) (s : Shown P b o 
     unfolding written_on
     written = stepped (write_of (function_at b k) o w v).reply.body (write_of (function_at b k) o w v).reply.answer refl
 
-  absent : (x : Access) → P (absent_write b x)
-  absent access.Refused = s.still BadAccess no_body refl
-  absent (access.Good p u) = s.still Dropped no_body refl
+  absent : (x : Result Access Refusal) → P (absent_write b x)
+  absent (Err r) = s.still BadAccess no_body refl
+  absent (Ok a) = s.still Dropped no_body refl
 
   -- every write is one of the cases
   pub access_by : (device : ℕ) → P (bus_write_of b device o w v)

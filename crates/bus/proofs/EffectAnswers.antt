@@ -1,4 +1,5 @@
 -- An effect's answer by device is that of the device's function: where no function is, no effect answers.
+use Rattle.std.specs.Prelude.{Result, Ok, Err}
 use Prim.Native.Nat.{ℕ, ◌<◌, ◌≤◌}
 use mathlib.Core.Bool.{true, false}
 use mathlib.Core.Logic.{⊎_elim}
@@ -8,7 +9,6 @@ use Rattle.word.proofs.Tests.{below_or_not, true_or_false}
 use Rattle.address.specs.Layout.{config_space_size}
 use Rattle.address.specs.Check.{access_of}
 use Rattle.address.specs.declared.access.Access.{Access}
-use Rattle.address.specs.declared.access.Access.TheVariants as access
 use Rattle.capability.specs.Answer.{Answer}
 use Rattle.capability.specs.declared.effect_access.EffectHit.{EffectHit}
 use Rattle.capability.specs.declared.snapshot.Snapshot.{Snapshot}
@@ -24,14 +24,15 @@ use Rattle.bus.specs.declared.state.Bus.{Bus}
 use Rattle.bus.specs.declared.write_access.BusWriteAnswer.{BusWriteAnswer}
 use Rattle.bus.specs.declared.write_access.BusWriteAnswer.TheVariants.{Stored, Dropped, Probing, Moved, Kept, Effect, BadAccess, BadEffect, Exhausted}
 use Rattle.bus.proofs.Dispatch.{read_declared, read_absent, write_declared, write_absent}
+use Rattle.refusal.specs.declared.refusal.Refusal.{Refusal}
 
 module _ (b : Bus) (device o w : ℕ) (hit : EffectHit) where
   abbrev function : FunctionState
   function = function_at b (index_on b device)
 
-  absent_read_lem : (x : Access) → ((absent_read x).answer ≡ read_answer.Effect hit) → ⊥
-  absent_read_lem access.Refused e = let z : ◌≡◌ {A = ℕ} 0 1 = cc in omega arith
-  absent_read_lem (access.Good p u) e = let z : ◌≡◌ {A = ℕ} 0 1 = cc in omega arith
+  absent_read_lem : (x : Result Access Refusal) → ((absent_read x).answer ≡ read_answer.Effect hit) → ⊥
+  absent_read_lem (Err r) e = let z : ◌≡◌ {A = ℕ} 0 1 = cc in omega arith
+  absent_read_lem (Ok a) e = let z : ◌≡◌ {A = ℕ} 0 1 = cc in omega arith
 
   pub bus_read_answer : (bus_read_of b device o w).answer ≡ read_answer.Effect hit → Answer function.placed o w false hit
   bus_read_answer e =
@@ -52,9 +53,9 @@ module _ (b : Bus) (k o w : ℕ) where
   Told BadEffect = Unit {0}
   Told (Exhausted device) = Unit {0}
 
-  absent_write_lem : (x : Access) → Told (absent_write b x).reply.answer
-  absent_write_lem access.Refused = tt
-  absent_write_lem (access.Good p u) = tt
+  absent_write_lem : (x : Result Access Refusal) → Told (absent_write b x).reply.answer
+  absent_write_lem (Err r) = tt
+  absent_write_lem (Ok a) = tt
 
   module _ (v : ℕ) where
     stepped : (f : FunctionState) (body : Snapshot) (a : WriteAnswer) → (write_of (function_at b k) o w v).reply.answer ≡ a → Told (stepped_on b k f body a).reply.answer

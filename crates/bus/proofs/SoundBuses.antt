@@ -1,4 +1,5 @@
 -- A bus stays sound where one function of it is changed by a write or by the end of a relocation, and where all are reset: ranges stay as they are, or one moves to a place, or all are as they were placed.
+use Rattle.std.specs.Prelude.{Some, None}
 use Prim.Native.Nat.{ℕ, ◌/◌, ◌%◌, ◌<◌, ◌≤◌}
 use mathlib.Core.Bool.{true, false}
 use mathlib.Core.List.{List}
@@ -13,7 +14,6 @@ use Rattle.address.specs.Layout.{bar_count}
 use Rattle.address.specs.Limits.{function_room}
 use Rattle.bar.specs.Range.{four_gib, range, multiple, lies_in, meets}
 use Rattle.bar.specs.State.{no_state, range_of, relocated}
-use Rattle.bar.specs.declared.bar_state.Relocation.TheVariants as relocation
 use Rattle.bar.specs.declared.range.Aperture.{Aperture}
 use Rattle.bar.specs.declared.range.Range.{Range}
 use Rattle.bar.proofs.Ranges.{lies_end, meets_sym}
@@ -123,18 +123,18 @@ module _ (d : Declaration) (b : Bus) (s : Sound d b) where
       six = let n = its.six in omega arith
 
       -- nor does a candidate that is not accepted
-      kept_ranges : (j : ℕ) → range_of (bar_at (relocated_in f i relocation.Kept).bars j) ≡ range_of (bar_at f.bars j)
+      kept_ranges : (j : ℕ) → range_of (bar_at (relocated_in f i None).bars j) ≡ range_of (bar_at f.bars j)
       kept_ranges j =
-          ⊎_elim (λ (q : j ≡ i). rw (q, get_or-set_same f.bars i (relocated (bar_at f.bars i) relocation.Kept) no_state six))
-          (λ (q : j ≡ i → ⊥). rw (other_slot f.bars i j (relocated (bar_at f.bars i) relocation.Kept) q)) (same_or_not j i)
+          ⊎_elim (λ (q : j ≡ i). rw (q, get_or-set_same f.bars i (relocated (bar_at f.bars i) None) no_state six))
+          (λ (q : j ≡ i → ⊥). rw (other_slot f.bars i j (relocated (bar_at f.bars i) None) q)) (same_or_not j i)
 
-      pub sound_kept : Sound d (with_function b k (relocated_in f i relocation.Kept))
-      sound_kept = sound_still (relocated_in f i relocation.Kept) (relocation_sound (started_function d k) f its i relocation.Kept l) kept_ranges
+      pub sound_kept : Sound d (with_function b k (relocated_in f i None))
+      sound_kept = sound_still (relocated_in f i None) (relocation_sound (started_function d k) f its i None l) kept_ranges
 
       -- one that is accepted moves this BAR alone
       module _ (a : ℕ) where
         abbrev g : FunctionState
-        g = relocated_in f i (relocation.Accepted a)
+        g = relocated_in f i (Some a)
 
         abbrev moved : Range
         moved = range a (bar_at f.bars i).plan.size
@@ -143,18 +143,18 @@ module _ (d : Declaration) (b : Bus) (s : Sound d b) where
         moved_here =
             let p : key / bar_count ≡ k = omega arith in
             let q : key % bar_count ≡ i = omega arith in
-            range_here g key p ∙ rw (q, get_or-set_same f.bars i (relocated (bar_at f.bars i) (relocation.Accepted a)) no_state six)
+            range_here g key p ∙ rw (q, get_or-set_same f.bars i (relocated (bar_at f.bars i) (Some a)) no_state six)
 
         moved_other : (n : ℕ) → (n ≡ key → ⊥) → range_on (with_function b k g) n ≡ range_on b n
         moved_other n o =
             ⊎_elim (λ (q : n / bar_count ≡ k).
             let r : n % bar_count ≡ i → ⊥ = λ t. o (omega arith) in
-            range_here g n q ∙ rw (other_slot f.bars i (n % bar_count) (relocated (bar_at f.bars i) (relocation.Accepted a)) r) (sym (sound_range d b s n (rw q h) ∙ rw q)))
+            range_here g n q ∙ rw (other_slot f.bars i (n % bar_count) (relocated (bar_at f.bars i) (Some a)) r) (sym (sound_range d b s n (rw q h) ∙ rw q)))
             (λ (q : n / bar_count ≡ k → ⊥). range_other g n q) (same_or_not (n / bar_count) k)
 
         pub sound_moved : multiple moved ≡ true → lies_in b.aperture moved ≡ true → ((n : ℕ) → (n ≡ key → ⊥) → meets moved (range_on b n) ≡ false) → Sound d (with_function b k g)
         sound_moved aligned within free =
-            sound_with g (relocation_sound (started_function d k) f its i (relocation.Accepted a) l)
+            sound_with g (relocation_sound (started_function d k) f its i (Some a) l)
             (clear_moved b.aperture (range_on b) (range_on (with_function b k g)) key (rw s.aperture s.good.aperture.most) s.committed moved_other (rw moved_here aligned) (rw moved_here within) (λ n o. rw moved_here (free n o)))
 
   -- every function reset

@@ -1,4 +1,5 @@
 -- A function stays sound through its own steps: a write, the end of a relocation, a reset.
+use Rattle.std.specs.Prelude.{Option}
 use Prim.Native.Nat.{ℕ, ◌<◌, ◌≤◌}
 use mathlib.Core.Logic.{⊎_elim}
 use mathlib.Core.Path.{◌≡◌, sym, ◌∙◌}
@@ -10,7 +11,6 @@ use Rattle.address.specs.Kinds.{slot}
 use Rattle.address.specs.Layout.{config_space_size, bar_count}
 use Rattle.address.proofs.Slots.{index_is}
 use Rattle.bar.specs.State.{reset_of, probed, relocated}
-use Rattle.bar.specs.declared.bar_state.Relocation.{Relocation}
 use Rattle.config.specs.Reset.{reset_done}
 use Rattle.config.specs.Same.{Same}
 use Rattle.config.specs.State.{bar_at, slot_at}
@@ -60,10 +60,10 @@ module _ (start f : FunctionState) (s : SoundFunction start f) where
         }
 
   -- a candidate that is taken, or is not
-  relocation_sames : (i : ℕ) (r : Relocation) → i < bar_count → Same f (relocated_in f i r)
+  relocation_sames : (i : ℕ) (r : Option ℕ) → i < bar_count → Same f (relocated_in f i r)
   relocation_sames i r h = rw (index_is i h) at (relocation_same f (slot i) r)
 
-  pub relocation_sound : (i : ℕ) (r : Relocation) → i < bar_count → SoundFunction start (relocated_in f i r)
+  pub relocation_sound : (i : ℕ) (r : Option ℕ) → i < bar_count → SoundFunction start (relocated_in f i r)
   relocation_sound i r h =
       record {
         same = same_trans start f (relocated_in f i r) s.same (relocation_sames i r h);

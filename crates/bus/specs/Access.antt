@@ -1,13 +1,11 @@
 -- Reads and writes by device (document 01, "Access and reset").
-use Rattle.std.specs.Prelude.{ℕ, ◌-◌, ◌^◌, Bool, true, false, cond, List, eqb}
+use Rattle.std.specs.Prelude.{ℕ, ◌-◌, ◌^◌, Bool, true, false, cond, List, eqb, Some, None, Result, Ok, Err}
 use Rattle.refusal.specs.Number as refusal
 use Rattle.word.specs.Table.{table}
 use Rattle.address.specs.Layout.{config_space_size}
 use Rattle.address.specs.Check.{access_of}
 use Rattle.address.specs.declared.access.Access.{Access}
-use Rattle.address.specs.declared.access.Access.TheVariants as access
 use Rattle.bar.specs.declared.range.Range.{Range}
-use Rattle.bar.specs.declared.bar_state.Relocation.TheVariants as relocation
 use Rattle.capability.specs.declared.snapshot.Snapshot.{Snapshot}
 use Rattle.placement.specs.Keys.{key_count}
 use Rattle.placement.specs.Place.{no_range, is_place}
@@ -25,11 +23,12 @@ use Rattle.bus.specs.declared.write_access.BusWriteAnswer.{BusWriteAnswer}
 use Rattle.bus.specs.declared.write_access.BusWriteAnswer.TheVariants.{Stored, Dropped, Probing, Moved, Kept, Effect, BadAccess, BadEffect, Exhausted}
 use Rattle.bus.specs.declared.write_access.BusWriteDone.{BusWriteDone}
 use Rattle.bus.specs.declared.write_access.Written.{Written}
+use Rattle.refusal.specs.declared.refusal.Refusal.{Refusal}
 
 -- "Check 18 first. An undeclared device, or a number above 31, reads all ones of the width"
-abbrev pub absent_read : Access → ReadReply
-absent_read access.Refused = read_reply read_answer.BadAccess no_body
-absent_read (access.Good o w) = read_reply (read_answer.Value (256 ^ w - 1)) no_body
+abbrev pub absent_read : Result Access Refusal → ReadReply
+absent_read (Err r) = read_reply read_answer.BadAccess no_body
+absent_read (Ok a) = read_reply (read_answer.Value (256 ^ a.width - 1)) no_body
 
 unfoldable pub bus_read_of : Bus → ℕ → ℕ → ℕ → ReadReply
 bus_read_of b device o w = cond (declared_on b device) (read_of (function_at b (index_on b device)) o w) (absent_read (access_of config_space_size o w))
@@ -82,8 +81,8 @@ put_on b k r = record { reply = r.reply; bus = with_function b k r.function }
 -- "If not accepted, the address stays. The answer says which."
 abbrev pub settled_on : Bus → ℕ → ℕ → ℕ → BusWriteDone
 settled_on b k i a =
-    cond (accepts b k i a) (bus_done (Moved i a) no_body (with_function b k (relocated_in (function_at b k) i (relocation.Accepted a))))
-    (bus_done (Kept i (bar_in b k i).address) no_body (with_function b k (relocated_in (function_at b k) i relocation.Kept)))
+    cond (accepts b k i a) (bus_done (Moved i a) no_body (with_function b k (relocated_in (function_at b k) i (Some a))))
+    (bus_done (Kept i (bar_in b k i).address) no_body (with_function b k (relocated_in (function_at b k) i None)))
 
 -- what the function's step says, on the bus
 abbrev pub stepped_on : Bus → ℕ → FunctionState → Snapshot → WriteAnswer → BusWriteDone
@@ -96,9 +95,9 @@ stepped_on b k f body write_answer.BadEffect = bus_done BadEffect body b
 stepped_on b k f body write_answer.Exhausted = bus_done (Exhausted (device_at b k)) body b
 
 -- "writes are dropped", 18 first
-abbrev pub absent_write : Bus → Access → BusWriteDone
-absent_write b access.Refused = bus_done BadAccess no_body b
-absent_write b (access.Good o w) = bus_done Dropped no_body b
+abbrev pub absent_write : Bus → Result Access Refusal → BusWriteDone
+absent_write b (Err r) = bus_done BadAccess no_body b
+absent_write b (Ok a) = bus_done Dropped no_body b
 
 unfoldable pub written_on : Bus → ℕ → ℕ → ℕ → ℕ → BusWriteDone
 written_on b k o w v =

@@ -6,9 +6,9 @@ ghost use Rattle.address.specs.Limits.{limits, function_room};
 ghost use Rattle.bus.specs.Start.{function_bars, declared_bars, bars_placed, function_start, devices_of, functions_of, bus_of, refused_start, start_declared, start_of};
 
 use crate::state::{Bus, no_function_state};
+use address::Slot;
 use address::config_layout::CONFIG_SPACE_SIZE;
 use address::limits::{BAR_SLOTS, FUNCTION_LIMIT};
-use address::{Slot, SlotAnswer};
 use bar::{BarState, Plan};
 use capability::layout_capabilities;
 use config::{Function, FunctionState, PowerOn};
@@ -46,15 +46,12 @@ fn declared_bars(declaration: Declaration) -> DeclaredBars
     }
 }
 
-// The slot at an index; the fallback is never taken.
+// The slot at an index.
 fn slot_at(i: usize) -> Slot
     requires { i < bar_count }
     ensures { result ≡ slot i }
 {
-    match Slot::new(i as u8) {
-        SlotAnswer::Good(at) => at,
-        SlotAnswer::Bad => Slot::zero(),
-    }
+    Slot::new(i as u8).unwrap()
 }
 
 // The BARs of the function at an index, each where it was placed.

@@ -6,8 +6,8 @@ ghost use Rattle.address.specs.Check.{most_width, access_of};
 ghost use Rattle.bus.specs.Access.{absent_read, bus_read_of};
 
 use crate::state::{Bus, count_on, index_of};
+use address::check;
 use address::config_layout::CONFIG_SPACE_SIZE;
-use address::{Access, check};
 use config::{ReadAnswer, ReadReply, no_body};
 
 // All ones of a width.
@@ -27,11 +27,11 @@ fn absent_read(offset: usize, width: usize) -> ReadReply
     ensures { result ≡ absent_read (access_of config_space_size offset width) }
 {
     match check(CONFIG_SPACE_SIZE, offset, width) {
-        Access::Good { offset: _, width } => ReadReply {
-            answer: ReadAnswer::Value(ones(width)),
+        Ok(access) => ReadReply {
+            answer: ReadAnswer::Value(ones(access.width)),
             body: no_body(),
         },
-        Access::Refused => ReadReply {
+        Err(_) => ReadReply {
             answer: ReadAnswer::BadAccess,
             body: no_body(),
         },

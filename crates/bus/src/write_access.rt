@@ -7,9 +7,8 @@ ghost use Rattle.bus.specs.Access.{bus_write_number, bus_done, written_as, put_o
 
 use crate::ranges::accepted_at;
 use crate::state::{Bus, count_on, index_of};
+use address::check;
 use address::config_layout::CONFIG_SPACE_SIZE;
-use address::{Access, check};
-use bar::Relocation;
 use capability::{EffectHit, Snapshot};
 use config::{FunctionState, WriteAnswer, finish_at, no_body};
 
@@ -94,11 +93,11 @@ fn settle(bus: Bus, k: usize, i: usize, address: u64) -> Written
     let function = bus.functions[k];
     let accepted = accepted_at(bus, k, i, address);
     if accepted {
-        let moved = finish_at(function, i, Relocation::Accepted(address));
+        let moved = finish_at(function, i, Some(address));
         return comes_to(BusWriteAnswer::Moved { slot: i, address }, no_body(), moved);
     }
     let bar = function.bars[i];
-    let kept = finish_at(function, i, Relocation::Kept);
+    let kept = finish_at(function, i, None);
     comes_to(
         BusWriteAnswer::Kept {
             slot: i,
@@ -143,11 +142,8 @@ fn absent_write(bus: Bus, offset: usize, width: usize) -> BusWriteDone
     ensures { result ≡ absent_write bus (access_of config_space_size offset width) }
 {
     match check(CONFIG_SPACE_SIZE, offset, width) {
-        Access::Good {
-            offset: _,
-            width: _,
-        } => done(BusWriteAnswer::Dropped, no_body(), bus),
-        Access::Refused => done(BusWriteAnswer::BadAccess, no_body(), bus),
+        Ok(_) => done(BusWriteAnswer::Dropped, no_body(), bus),
+        Err(_) => done(BusWriteAnswer::BadAccess, no_body(), bus),
     }
 }
 

@@ -6,8 +6,8 @@ ghost use Rattle.capability.specs.Offset.{next_multiple, capability_end, offset_
 
 use crate::declared::Capabilities;
 use crate::placed::CAPABILITY_HEADER_SIZE;
+use address::ConfigOffset;
 use address::config_layout::CONFIG_STANDARD_HEADER_END;
-use address::{ConfigOffset, OffsetAnswer};
 
 pub const CAPABILITY_ALIGNMENT: usize = 4;
 
@@ -20,15 +20,12 @@ pub(crate) fn next_offset(start: usize, body: u8) -> usize
     (end + CAPABILITY_ALIGNMENT - 1) / CAPABILITY_ALIGNMENT * CAPABILITY_ALIGNMENT
 }
 
-// An offset in the space; the fallback is never taken.
+// An offset that is in the space.
 pub(crate) fn offset_in(space: u16, value: usize) -> ConfigOffset
     requires { value < space }
     ensures { result ≡ offset value }
 {
-    match ConfigOffset::new(space, value) {
-        OffsetAnswer::Good(at) => at,
-        OffsetAnswer::Bad => ConfigOffset::zero(),
-    }
+    ConfigOffset::new(space, value).unwrap()
 }
 
 impl Capabilities {

@@ -1,7 +1,8 @@
 -- The cases of document 01 marked P, as one statement over one list. Each question is put to the definition that the promises cite.
 use Rattle.std.specs.Prelude.{ℕ, true, false, List, [], map, ◌∷◌, length, take, Some, None, Ok, Err}
 use Rattle.address.specs.Layout.{config_space_size}
-use Rattle.address.specs.Check.{access_of, access_number}
+use Rattle.refusal.specs.Refusal.{answer_number}
+use Rattle.address.specs.Check.{access_of}
 use Rattle.bar.specs.Register.{size_mask, class_of}
 use Rattle.bar.specs.State.{asks}
 use Rattle.bar.specs.declared.bar_state.BarWrite.{BarWrite}
@@ -63,7 +64,7 @@ abbrev pub answer : Question → Reply
 answer (mask size) = number_is (size_mask size)
 answer (dword d) = asks_for (class_of d)
 answer (write b lane width value) = asks_for (asks b lane width value)
-answer (check o w) = refusal_is (access_number (access_of config_space_size o w))
+answer (check o w) = refusal_is (answer_number (access_of config_space_size o w))
 answer (bodies ns) = layout_reply (layout_of config_space_size (declare none_declared ns)).answer
 answer (starts ns) = numbers_are (map (λ (p : PlacedCapability). p.offset.0) (take (length ns) (layout_of config_space_size (declare none_declared ns)).placed.capabilities))
 answer (body n) = refusal_is (capability_answer_number (capability_of 9 n))

@@ -1,4 +1,5 @@
 -- A function's read and write hand on what the capability's answer says of the access. Each is taken by its cases; only an effect's answer says anything.
+use Rattle.std.specs.Prelude.{Result, Ok, Err}
 use Prim.Native.Nat.{ℕ}
 use mathlib.Core.Bool.{true, false}
 use mathlib.Core.Logic.{⊎_elim}
@@ -7,7 +8,6 @@ use Rattle.std.proofs.Common.{Some, None, Ok, Err}
 use Rattle.word.proofs.Tests.{true_or_false}
 use Rattle.address.specs.Check.{access_of}
 use Rattle.address.specs.declared.access.Access.{Access}
-use Rattle.address.specs.declared.access.Access.TheVariants as access
 use Rattle.address.proofs.Accesses.{access_is}
 use Rattle.capability.specs.Touch.{touch_of, Touch}
 use Rattle.capability.specs.Answer.{Answer}
@@ -24,6 +24,7 @@ use Rattle.config.specs.declared.write_step.WriteAnswer.{WriteAnswer}
 use Rattle.config.specs.declared.write_step.WriteAnswer.TheVariants as write_answer
 use Rattle.config.proofs.Reading.{read_register, read_elsewhere}
 use Rattle.config.proofs.WriteCases.{write_by_lem}
+use Rattle.refusal.specs.declared.refusal.Refusal.{Refusal}
 
 module _ (f : FunctionState) (o w : ℕ) where
   abbrev ReadTold : ReadAnswer → Type 0
@@ -43,9 +44,9 @@ module _ (f : FunctionState) (o w : ℕ) where
       (λ (t : in_bar f.bars o ≡ false). rw (read_elsewhere f o w t) (touched (touch_of f.placed o w false) refl))
       (true_or_false (in_bar f.bars o))
 
-  checked : (x : Access) → access_of (space_of f) o w ≡ x → ReadTold (read_checked f x).answer
-  checked access.Refused e = tt
-  checked (access.Good p u) e = let r = access_is (space_of f) o w p u e in rw (r.1, r.2) good
+  checked : (x : Result Access Refusal) → access_of (space_of f) o w ≡ x → ReadTold (read_checked f x).answer
+  checked (Err r) e = tt
+  checked (Ok a) e = let r = access_is (space_of f) o w a.offset a.width e in rw (r.1, r.2) good
 
   read_told : ReadTold (read_of f o w).answer
   unfolding read_of

@@ -1,4 +1,5 @@
 -- What no write, relocation or reset changes, and what a write may change: the laws that the truth of enumeration rests on.
+use Rattle.std.specs.Prelude.{Option, Some, None}
 use Prim.Native.Nat.{ℕ, ◌+◌, ◌<◌, ◌≤◌}
 use mathlib.Core.List.{List, map}
 use mathlib.Core.Logic.{◌⊎◌, inl, inr, ⊎_elim}
@@ -13,8 +14,6 @@ use Rattle.address.specs.Kinds.{index_of}
 use Rattle.address.specs.declared.slot.Slot.{Slot}
 use Rattle.bar.specs.State.{reset_of, probed, relocated}
 use Rattle.bar.specs.declared.bar_state.BarState.{BarState}
-use Rattle.bar.specs.declared.bar_state.Relocation.{Relocation}
-use Rattle.bar.specs.declared.bar_state.Relocation.TheVariants as relocation
 use Rattle.config.specs.Command.{Follows, stays}
 use Rattle.config.specs.Same.{Same}
 use Rattle.config.specs.Space.{space_of}
@@ -51,12 +50,12 @@ write_same f o w v =
     state_by (Same f) f o w v (same_refl f) (with_bar_same f (slot_at o) (probed (bar_at f.bars (slot_at o))) refl)
     (record { space = refl; power_on = refl; mask = refl; placed = refl; plans = λ k. refl })
 
-by_relocation : (b : BarState) (r : Relocation) → (relocated b r).plan ≡ b.plan
-by_relocation b (relocation.Accepted a) = refl
-by_relocation b relocation.Kept = refl
+by_relocation : (b : BarState) (r : Option ℕ) → (relocated b r).plan ≡ b.plan
+by_relocation b (Some a) = refl
+by_relocation b None = refl
 
 -- nor does the second step of a relocation
-pub relocation_same : (f : FunctionState) (s : Slot) (r : Relocation) → Same f (relocated_at f s r)
+pub relocation_same : (f : FunctionState) (s : Slot) (r : Option ℕ) → Same f (relocated_at f s r)
 relocation_same f s r = with_bar_same f (index_of s) (relocated (bar_at f.bars (index_of s)) r) (by_relocation (bar_at f.bars (index_of s)) r)
 
 -- nor a reset, which restores the live image and every BAR

@@ -1,4 +1,5 @@
 -- What a write can answer and leave: the seven cases, each with what held there. Whatever is shown of these holds of every write.
+use Rattle.std.specs.Prelude.{Result, Ok, Err}
 use Prim.Native.Nat.{ℕ, ◌%◌}
 use mathlib.Core.Bool.{true, false}
 use mathlib.Core.List.{List}
@@ -10,8 +11,7 @@ use Rattle.word.proofs.Tests.{true_or_false}
 use Rattle.address.specs.Layout.{bar_register_size}
 use Rattle.address.specs.Check.{access_of}
 use Rattle.address.specs.declared.access.Access.{Access}
-use Rattle.address.specs.declared.access.Access.TheVariants as access
-use Rattle.address.proofs.Accesses.{Aligned, access_is}
+use Rattle.address.proofs.Accesses.{Aligned, access_is, access_err}
 use Rattle.bar.specs.State.{asks, probed}
 use Rattle.bar.specs.declared.bar_state.BarWrite.{BarWrite}
 use Rattle.bar.specs.declared.bar_state.BarWrite.TheVariants as bar_write
@@ -28,6 +28,8 @@ use Rattle.config.specs.declared.state.FunctionState.{FunctionState}
 use Rattle.config.specs.declared.write_step.WriteAnswer.TheVariants.{Stored, Probing, Candidate, Effect, BadAccess, BadEffect, Exhausted}
 use Rattle.config.specs.declared.write_step.WriteDone.{WriteDone}
 use Rattle.config.proofs.Writing.{write_register, write_elsewhere, store_kept, store_exhausted}
+use Rattle.refusal.specs.declared.refusal.Refusal.TheVariants as refusal
+use Rattle.refusal.specs.declared.refusal.Refusal.{Refusal}
 
 -- the image that a store leaves
 abbrev pub stored_in : FunctionState → ℕ → ℕ → ℕ → List ℕ
@@ -35,7 +37,7 @@ stored_in f o w v = stored f.mask f.live o w v
 
 -- what has to be shown of a write: one clause a case
 pub record Shown (P : WriteDone → Type 0) (f : FunctionState) (o w v : ℕ) : Type 0 where
-  pub bad_access : access_of (space_of f) o w ≡ access.Refused → P (write_done BadAccess no_body f)
+  pub bad_access : access_of (space_of f) o w ≡ Err refusal.BadAccess → P (write_done BadAccess no_body f)
   pub probing : Aligned (space_of f) o w → in_bar f.bars o ≡ true → P (write_done (Probing (slot_at o)) no_body (with_bar f (slot_at o) (probed (bar_at f.bars (slot_at o)))))
   pub candidate : Aligned (space_of f) o w → in_bar f.bars o ≡ true → (a : ℕ) → asks (bar_at f.bars (slot_at o)) (o % bar_register_size) w v ≡ bar_write.Relocate a → P (write_done (Candidate (slot_at o) a) no_body f)
   pub effect : Aligned (space_of f) o w → in_bar f.bars o ≡ false → (hit : EffectHit) → touch_of f.placed o w true ≡ Ok (Some hit) → P (write_done (Effect hit) (snapshot_of f.placed f.live hit.region.capability) f)
@@ -69,9 +71,9 @@ module _ (P : WriteDone → Type 0) (f : FunctionState) (o w v : ℕ) (s : Shown
       (λ (t : in_bar f.bars o ≡ false). rw (write_elsewhere f o w v t) (touched a t (touch_of f.placed o w true) refl))
       (true_or_false (in_bar f.bars o))
 
-  checked : (x : Access) → access_of (space_of f) o w ≡ x → P (write_checked f v x)
-  checked access.Refused e = s.bad_access e
-  checked (access.Good p u) e = let r = access_is (space_of f) o w p u e in rw (r.1, r.2) (at_good r.0)
+  checked : (x : Result Access Refusal) → access_of (space_of f) o w ≡ x → P (write_checked f v x)
+  checked (Err r) e = s.bad_access (rw (access_err (space_of f) o w r e) at e)
+  checked (Ok a) e = let r = access_is (space_of f) o w a.offset a.width e in rw (r.1, r.2) (at_good r.0)
 
   -- every write is one of the cases
   pub write_by_lem : P (write_of f o w v)

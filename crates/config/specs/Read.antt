@@ -1,11 +1,10 @@
 -- A read of config space (document 01, "Access and reset").
-use Rattle.std.specs.Prelude.{ℕ, ◌%◌, false, cond, Some, None, Ok, Err}
+use Rattle.std.specs.Prelude.{ℕ, ◌%◌, false, cond, Some, None, Ok, Err, Result}
 use Rattle.refusal.specs.Number.{accepted, bad_access, bad_touch}
 use Rattle.word.specs.Number.{read_at, bytes_of}
 use Rattle.address.specs.Layout.{bar_register_size}
 use Rattle.address.specs.Check.{access_of}
 use Rattle.address.specs.declared.access.Access.{Access}
-use Rattle.address.specs.declared.access.Access.TheVariants as access
 use Rattle.bar.specs.State.{shown}
 use Rattle.capability.specs.Touch.{touch_of, Touch}
 use Rattle.capability.specs.Snapshot.{snapshot_of}
@@ -16,6 +15,7 @@ use Rattle.config.specs.declared.state.FunctionState.{FunctionState}
 use Rattle.config.specs.declared.read_step.ReadAnswer.{ReadAnswer}
 use Rattle.config.specs.declared.read_step.ReadAnswer.TheVariants.{Value, Effect, BadAccess, BadEffect}
 use Rattle.config.specs.declared.read_step.ReadReply.{ReadReply}
+use Rattle.refusal.specs.declared.refusal.Refusal.{Refusal}
 
 -- document 01's number for each answer
 abbrev pub read_number : ReadAnswer → ℕ
@@ -42,9 +42,9 @@ unfoldable pub read_good : FunctionState → ℕ → ℕ → ReadReply
 read_good f o w = cond (in_bar f.bars o) (read_reply (Value (register_bytes f o w)) no_body) (read_touched f o w (touch_of f.placed o w false))
 
 -- "Check 18 first."
-abbrev pub read_checked : FunctionState → Access → ReadReply
-read_checked f access.Refused = read_reply BadAccess no_body
-read_checked f (access.Good o w) = read_good f o.0 w
+abbrev pub read_checked : FunctionState → Result Access Refusal → ReadReply
+read_checked f (Err r) = read_reply BadAccess no_body
+read_checked f (Ok a) = read_good f a.offset.0 a.width
 
 unfoldable pub read_of : FunctionState → ℕ → ℕ → ReadReply
 read_of f o w = read_checked f (access_of (space_of f) o w)

@@ -1,5 +1,5 @@
 -- A write to config space (document 01, "Access and reset"), but for the acceptance of a candidate, which the bus decides.
-use Rattle.std.specs.Prelude.{ℕ, ◌%◌, true, cond, Some, None, Ok, Err}
+use Rattle.std.specs.Prelude.{ℕ, ◌%◌, true, cond, Some, None, Ok, Err, Option, Result}
 use Rattle.refusal.specs.Number as refusal
 use Rattle.word.specs.Store.{stored}
 use Rattle.address.specs.Layout.{bar_register_size}
@@ -7,11 +7,9 @@ use Rattle.address.specs.Kinds.{index_of}
 use Rattle.address.specs.Check.{access_of}
 use Rattle.address.specs.declared.slot.Slot.{Slot}
 use Rattle.address.specs.declared.access.Access.{Access}
-use Rattle.address.specs.declared.access.Access.TheVariants as access
 use Rattle.bar.specs.State.{asks, probed, relocated}
 use Rattle.bar.specs.declared.bar_state.BarWrite.{BarWrite}
 use Rattle.bar.specs.declared.bar_state.BarWrite.TheVariants as bar_write
-use Rattle.bar.specs.declared.bar_state.Relocation.{Relocation}
 use Rattle.capability.specs.Touch.{touch_of, Touch}
 use Rattle.capability.specs.Snapshot.{snapshot_of}
 use Rattle.capability.specs.declared.snapshot.Snapshot.{Snapshot}
@@ -22,6 +20,7 @@ use Rattle.config.specs.declared.state.FunctionState.{FunctionState}
 use Rattle.config.specs.declared.write_step.WriteAnswer.{WriteAnswer}
 use Rattle.config.specs.declared.write_step.WriteAnswer.TheVariants.{Stored, Probing, Candidate, Effect, BadAccess, BadEffect, Exhausted}
 use Rattle.config.specs.declared.write_step.WriteDone.{WriteDone}
+use Rattle.refusal.specs.declared.refusal.Refusal.{Refusal}
 
 -- document 01's number for each answer
 abbrev pub write_number : WriteAnswer → ℕ
@@ -63,16 +62,16 @@ write_good f o w v =
     cond (in_bar f.bars o) (bar_step f o w v) (write_touched f o w v (touch_of f.placed o w true))
 
 -- "Check 18 first."
-abbrev pub write_checked : FunctionState → ℕ → Access → WriteDone
-write_checked f v access.Refused = write_done BadAccess no_body f
-write_checked f v (access.Good o w) = write_good f o.0 w v
+abbrev pub write_checked : FunctionState → ℕ → Result Access Refusal → WriteDone
+write_checked f v (Err r) = write_done BadAccess no_body f
+write_checked f v (Ok a) = write_good f a.offset.0 a.width v
 
 unfoldable pub write_of : FunctionState → ℕ → ℕ → ℕ → WriteDone
 write_of f o w v = write_checked f v (access_of (space_of f) o w)
 
 -- the second step: "probing ends", and the candidate is taken or "the address stays"
-abbrev pub relocated_in : FunctionState → ℕ → Relocation → FunctionState
+abbrev pub relocated_in : FunctionState → ℕ → Option ℕ → FunctionState
 relocated_in f i r = with_bar f i (relocated (bar_at f.bars i) r)
 
-abbrev pub relocated_at : FunctionState → Slot → Relocation → FunctionState
+abbrev pub relocated_at : FunctionState → Slot → Option ℕ → FunctionState
 relocated_at f s r = relocated_in f (index_of s) r

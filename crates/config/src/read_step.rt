@@ -4,7 +4,7 @@ ghost use Rattle.config.specs.Read.{read_number, register_bytes, read_touched, r
 
 use crate::state::{FunctionState, bar_at, in_bar, no_body, slot_at, space_of};
 use address::config_layout::CONFIG_BAR_REGISTER_SIZE;
-use address::{Access, ConfigOffset, check};
+use address::{ConfigOffset, check};
 use capability::{EffectHit, Snapshot, effect_for_access, snapshot_of};
 use refusal::Refusal;
 
@@ -103,8 +103,8 @@ pub fn read(state: FunctionState, offset: usize, width: usize) -> ReadReply
     ensures { result ≡ read_of state offset width }
 {
     match check(space_of(state), offset, width) {
-        Access::Good { offset, width } => read_good(state, offset, width),
-        Access::Refused => ReadReply {
+        Ok(access) => read_good(state, access.offset, access.width),
+        Err(_) => ReadReply {
             answer: ReadAnswer::BadAccess,
             body: no_body(),
         },

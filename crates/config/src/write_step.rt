@@ -5,8 +5,8 @@ ghost use Rattle.config.specs.Write.{write_number, write_done, store_of, bar_ste
 
 use crate::state::{FunctionState, bar_at, in_bar, no_body, slot_at, space_of, with_bar};
 use crate::store_leaf::store_live;
-use address::{Access, ConfigOffset, Slot, check, config_layout};
-use bar::{BarWrite, Relocation};
+use address::{ConfigOffset, Slot, check, config_layout};
+use bar::BarWrite;
 use capability::{EffectHit, Snapshot, effect_for_access, snapshot_of};
 use refusal::Refusal;
 
@@ -146,23 +146,23 @@ pub fn write(state: FunctionState, offset: usize, width: usize, value: u64) -> W
     ensures { result ≡ write_of state offset width value }
 {
     match check(space_of(state), offset, width) {
-        Access::Good { offset, width } => write_good(state, offset, width, value),
-        Access::Refused => plain(WriteAnswer::BadAccess, state),
+        Ok(access) => write_good(state, access.offset, access.width, value),
+        Err(_) => plain(WriteAnswer::BadAccess, state),
     }
 }
 
 // The second step of a relocation, at an index: the bus accepted the candidate or did not.
-pub fn finish_at(state: FunctionState, i: usize, relocation: Relocation) -> FunctionState
-    ensures { result ≡ relocated_in state i relocation }
+pub fn finish_at(state: FunctionState, i: usize, accepted: Option<u64>) -> FunctionState
+    ensures { result ≡ relocated_in state i accepted }
 {
     let bars = state.bars;
     let bar = bar_at(bars, i);
-    with_bar(state, i, bar.finish_relocation(relocation))
+    with_bar(state, i, bar.finish_relocation(accepted))
 }
 
 // The same at a slot.
-pub fn finish_relocation(state: FunctionState, slot: Slot, relocation: Relocation) -> FunctionState
-    ensures { result ≡ relocated_at state slot relocation }
+pub fn finish_relocation(state: FunctionState, slot: Slot, accepted: Option<u64>) -> FunctionState
+    ensures { result ≡ relocated_at state slot accepted }
 {
-    finish_at(state, slot.index(), relocation)
+    finish_at(state, slot.index(), accepted)
 }

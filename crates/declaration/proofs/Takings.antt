@@ -1,4 +1,5 @@
 -- What a field does, check by check: the number of the first that fails, in document 01's order, or the declaration with the field.
+use Rattle.std.specs.Prelude.{Ok, Err}
 use Prim.Native.Nat.{ℕ, ◌<◌, ◌≤◌}
 use mathlib.Core.Bool.{true, false}
 use mathlib.Core.List.{List}
@@ -14,8 +15,7 @@ use Rattle.bar.specs.Range.{four_gib, aperture_of}
 use Rattle.bar.specs.Bar.{size_ok}
 use Rattle.bar.specs.declared.memory_bar.Request.{Request}
 use Rattle.bar.specs.declared.range.Aperture.{Aperture}
-use Rattle.bar.specs.declared.range.ApertureAnswer.TheVariants as aperture_answer
-use Rattle.bar.proofs.Ranges.{aperture_is}
+use Rattle.bar.proofs.Ranges.{aperture_is, aperture_refused}
 use Rattle.capability.specs.Size.{body_most}
 use Rattle.capability.specs.BadEffect.{effect_bad}
 use Rattle.capability.specs.declared.effect.EffectAccess.{EffectAccess}
@@ -24,7 +24,7 @@ use Rattle.declaration.specs.Standing.{is_present, slot_used, device_bad}
 use Rattle.declaration.specs.Take.{with_field, taken, taken_said}
 use Rattle.declaration.specs.declared.said.Said.TheVariants as said
 use Rattle.declaration.specs.declared.so_far.SoFar.{SoFar}
-use Rattle.declaration.proofs.Made.{aperture_none}
+use Rattle.refusal.specs.declared.refusal.Refusal.{Refusal}
 
 -- an aperture
 module _ (l : Limits) (s : SoFar) (start end : ℕ) (body : List ℕ) where
@@ -33,11 +33,11 @@ module _ (l : Limits) (s : SoFar) (start end : ℕ) (body : List ℕ) where
   aperture_repeated h = rw h
 
   module _ (h : s.has_aperture ≡ false) where
-    pub aperture_refused : aperture_of four_gib start end ≡ aperture_answer.Bad → taken_said l s (said.Aperture start end) body ≡ taken bad_aperture s
+    pub aperture_not_taken : (r : Refusal) → aperture_of four_gib start end ≡ Err r → taken_said l s (said.Aperture start end) body ≡ taken bad_aperture s
     unfolding taken_said
-    aperture_refused e = rw (h, aperture_none four_gib start end e)
+    aperture_not_taken r e = rw (h, (aperture_refused four_gib start end r e).1)
 
-    pub aperture_taken : (a : Aperture) → aperture_of four_gib start end ≡ aperture_answer.Good a → taken_said l s (said.Aperture start end) body ≡ taken accepted (with_field s (said.Aperture start end) body)
+    pub aperture_taken : (a : Aperture) → aperture_of four_gib start end ≡ Ok a → taken_said l s (said.Aperture start end) body ≡ taken accepted (with_field s (said.Aperture start end) body)
     unfolding taken_said
     aperture_taken a e = let r = aperture_is four_gib start end a e in rw (h, lt-ltb start end r.1, le-leb end four_gib r.2)
 

@@ -9,7 +9,7 @@ use crate::so_far::{SoFar, empty_function, no_mask};
 use crate::take::{Taken, accepted, refused};
 use address::config_layout;
 use address::limits::FUNCTION_LIMIT;
-use bar::{Aperture, ApertureAnswer};
+use bar::Aperture;
 use config::Identity;
 
 const MOST_DEVICE: u8 = 31;
@@ -22,13 +22,13 @@ impl SoFar {
             return refused(refusal::OUT_OF_ORDER, self);
         }
         match Aperture::new(start, end) {
-            ApertureAnswer::Good(aperture) => {
+            Ok(aperture) => {
                 let mut out = self;
                 out.has_aperture = true;
                 out.aperture = aperture;
                 accepted(out)
             }
-            ApertureAnswer::Bad => refused(refusal::BAD_APERTURE, self),
+            Err(_) => refused(refusal::BAD_APERTURE, self),
         }
     }
 

@@ -10,8 +10,8 @@ use crate::said::Said;
 use crate::so_far::SoFar;
 use crate::take::{Taken, accepted, refused};
 use address::limits::{BAR_SLOTS, CONFIG_BYTE_LIMIT};
-use address::{ConfigOffset, Slot, SlotAnswer};
-use bar::{BarAnswer, MemoryBar, Request};
+use address::{ConfigOffset, Slot};
+use bar::{MemoryBar, Request};
 use config::{ConfigByte, Contents, Function, Intx};
 
 fn is_present(intx: Intx) -> bool
@@ -91,7 +91,7 @@ impl SoFar {
         if full {
             return refused(refusal::ABOVE_LIMIT, self);
         }
-        let SlotAnswer::Good(at) = Slot::new(slot) else {
+        let Ok(at) = Slot::new(slot) else {
             return refused(refusal::BAD_DEVICE_OR_SLOT, self);
         };
         let i = at.index();
@@ -99,7 +99,7 @@ impl SoFar {
         if used {
             return refused(refusal::BAD_DEVICE_OR_SLOT, self);
         }
-        let BarAnswer::Good(bar) = MemoryBar::new(at, size, request) else {
+        let Ok(bar) = MemoryBar::new(at, size, request) else {
             return refused(refusal::BAD_SIZE, self);
         };
         function.bars[i] = bar;

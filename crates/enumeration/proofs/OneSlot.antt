@@ -1,4 +1,5 @@
 -- One slot: what enumeration reads of it, and that it leaves the bus as it was.
+use Rattle.std.specs.Prelude.{Some}
 use Prim.Native.Nat.{ℕ, ◌+◌, ◌<◌, ◌≤◌}
 use mathlib.Core.Bool.{Bool, true, false}
 use mathlib.Core.List.{List}
@@ -16,7 +17,6 @@ use Rattle.address.specs.Layout.{config_space_size, bar_count}
 use Rattle.bar.specs.Range.{four_gib}
 use Rattle.bar.specs.Register.{size_mask, Address}
 use Rattle.bar.specs.State.{no_state, fresh, probed, relocated}
-use Rattle.bar.specs.declared.bar_state.Relocation.TheVariants as relocation
 use Rattle.bar.specs.declared.bar_state.BarState.{BarState}
 use Rattle.bar.specs.declared.bar_state.Plan.{Plan}
 use Rattle.bar.proofs.Registers.{mask_size, mask_lt, mask_zero, address_lt}
@@ -173,7 +173,7 @@ module _ (d : Declaration) (b : Bus) (s : Sound d b) (k : ℕ) (h : k < d.count)
           taken,
           shows_function,
           get_or-set_same now.bars i (probed bar) no_state six,
-          set-set now.bars i (probed bar) (relocated bar (relocation.Accepted bar.address)),
+          set-set now.bars i (probed bar) (relocated bar (Some bar.address)),
           bar_back bar q,
           set-get_or now.bars i no_state,
           set-set b.functions k probing now,

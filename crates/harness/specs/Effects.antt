@@ -1,12 +1,9 @@
 -- Accesses to effects and modes of bytes, as numbers.
-use Rattle.std.specs.Prelude.{Option, Some, None, ℕ, Bool, true, false, List, Ok, Err}
+use Rattle.std.specs.Prelude.{Option, Some, None, ℕ, Bool, true, false, List, Ok, Err, Result}
 use Rattle.refusal.specs.Number.{accepted}
 use Rattle.refusal.specs.Refusal.{number_of}
-use Rattle.address.specs.Check.{access_number}
+use Rattle.address.specs.declared.offset.ConfigOffset.{ConfigOffset}
 use Rattle.address.specs.declared.access.Access.{Access}
-use Rattle.address.specs.declared.access.Access.TheVariants as access
-use Rattle.address.specs.declared.offset.OffsetAnswer.{OffsetAnswer}
-use Rattle.address.specs.declared.offset.OffsetAnswer.TheVariants as offset_answer
 use Rattle.capability.specs.Blank.{no_placed_effect}
 use Rattle.capability.specs.Touch.{touch_of, Touch}
 use Rattle.capability.specs.Mode.{byte_mode_of}
@@ -14,6 +11,7 @@ use Rattle.capability.specs.declared.placed.Placed.{Placed}
 use Rattle.capability.specs.declared.byte_mode.ByteMode.{ByteMode}
 use Rattle.capability.specs.declared.byte_mode.ByteMode.TheVariants as mode
 use Rattle.harness.specs.declared.effects.Touched.{Touched}
+use Rattle.refusal.specs.declared.refusal.Refusal.{Refusal}
 
 -- inside no effect: all but the refusal is blank
 abbrev pub touched_none : ℕ → Touched
@@ -27,9 +25,9 @@ touch_numbers (Ok (Some hit)) =
 touch_numbers (Err r) = touched_none (number_of r)
 
 -- "Check 18 first."
-abbrev pub touch_checked : Placed → Bool → Access → Touched
-touch_checked p write access.Refused = touched_none (access_number access.Refused)
-touch_checked p write (access.Good o w) = touch_numbers (touch_of p o.0 w write)
+abbrev pub touch_checked : Placed → Bool → Result Access Refusal → Touched
+touch_checked p write (Err r) = touched_none (number_of r)
+touch_checked p write (Ok a) = touch_numbers (touch_of p a.offset.0 a.width write)
 
 -- a number for each mode
 abbrev pub mode_number : Option ByteMode → ℕ
@@ -39,6 +37,6 @@ mode_number (Some mode.StoredMasked) = 2
 mode_number (Some mode.EffectOnly) = 3
 
 -- an offset of 0x100 or more is outside
-abbrev pub mode_at : Placed → List ℕ → OffsetAnswer → ℕ
-mode_at p mask offset_answer.Bad = mode_number None
-mode_at p mask (offset_answer.Good o) = mode_number (byte_mode_of p mask o.0)
+abbrev pub mode_at : Placed → List ℕ → Option ConfigOffset → ℕ
+mode_at p mask None = mode_number None
+mode_at p mask (Some o) = mode_number (byte_mode_of p mask o.0)

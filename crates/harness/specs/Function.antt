@@ -1,9 +1,5 @@
 -- The steps of a function, as numbers: document 01's number for each refusal, 0 for none, and the values of each answer.
-use Rattle.std.specs.Prelude.{ℕ, Bool, true, false}
-use Rattle.address.specs.declared.slot.SlotAnswer.{SlotAnswer}
-use Rattle.address.specs.declared.slot.SlotAnswer.TheVariants as slot_answer
-use Rattle.bar.specs.declared.bar_state.Relocation.{Relocation}
-use Rattle.bar.specs.declared.bar_state.Relocation.TheVariants as bus
+use Rattle.std.specs.Prelude.{ℕ, Bool, true, false, Option, Some, None, Result, Ok, Err}
 use Rattle.capability.specs.Blank.{no_placed_effect}
 use Rattle.capability.specs.declared.snapshot.Snapshot.{Snapshot}
 use Rattle.config.specs.Read.{read_number}
@@ -20,6 +16,8 @@ use Rattle.config.specs.declared.reset_step.ResetDone.{ResetDone}
 use Rattle.harness.specs.declared.function.ReadOut.{ReadOut}
 use Rattle.harness.specs.declared.function.WriteOut.{WriteOut}
 use Rattle.harness.specs.declared.function.ResetOut.{ResetOut}
+use Rattle.address.specs.declared.slot.Slot.{Slot}
+use Rattle.refusal.specs.declared.refusal.Refusal.{Refusal}
 
 -- a read that no effect answers
 abbrev pub read_plain : ℕ → ℕ → Snapshot → ReadOut
@@ -73,14 +71,14 @@ abbrev pub write_done_numbers : WriteDone → WriteOut
 write_done_numbers d = write_numbers d.reply.body d.state d.reply.answer
 
 -- what the bus said of a candidate
-abbrev pub relocation : ℕ → Bool → Relocation
-relocation address true = bus.Accepted address
-relocation address false = bus.Kept
+abbrev pub relocation : ℕ → Bool → Option ℕ
+relocation address true = Some address
+relocation address false = None
 
 -- the second step; "slot above 5" is no slot, and nothing changes
-abbrev pub finished : FunctionState → Relocation → SlotAnswer → FunctionState
-finished f r (slot_answer.Good s) = relocated_at f s r
-finished f r slot_answer.Bad = f
+abbrev pub finished : FunctionState → Option ℕ → Result Slot Refusal → FunctionState
+finished f r (Ok s) = relocated_at f s r
+finished f r (Err e) = f
 
 -- the answer of a reset, with the state after it
 abbrev pub reset_numbers : ResetDone → ResetOut

@@ -1,5 +1,5 @@
 -- Placement in numbers: the BARs that they declare, and what is answered.
-use Rattle.std.specs.Prelude.{ℕ, ◌+◌, ◌*◌, Bool, false, cond, List, get_or, Ok, Err}
+use Rattle.std.specs.Prelude.{ℕ, ◌+◌, ◌*◌, Bool, false, cond, List, get_or, Ok, Err, Result}
 use Rattle.word.specs.Table.{table}
 use Rattle.address.specs.Layout.{bar_count}
 use Rattle.address.specs.Kinds.{slot}
@@ -7,8 +7,6 @@ use Rattle.bar.specs.Bar.{bar_of, no_bar}
 use Rattle.bar.specs.declared.memory_bar.Request.{Request}
 use Rattle.bar.specs.declared.memory_bar.Request.TheVariants.{Auto, Fixed}
 use Rattle.bar.specs.declared.memory_bar.MemoryBar.{MemoryBar}
-use Rattle.bar.specs.declared.memory_bar.BarAnswer.{BarAnswer}
-use Rattle.bar.specs.declared.memory_bar.BarAnswer.TheVariants.{Good, Bad}
 use Rattle.address.specs.Limits.{function_room}
 use Rattle.refusal.specs.Number.{accepted}
 use Rattle.refusal.specs.Refusal.{number_of}
@@ -17,15 +15,16 @@ use Rattle.placement.specs.declared.declared_bars.FunctionBars.{FunctionBars}
 use Rattle.placement.specs.declared.declared_bars.DeclaredBars.{DeclaredBars}
 use Rattle.harness.specs.declared.places.PlaceNumbers.{PlaceNumbers}
 use Rattle.harness.specs.declared.places.PlacedOut.{PlacedOut}
+use Rattle.refusal.specs.declared.refusal.Refusal.{Refusal}
 
 -- "a BAR's request is automatic or a fixed address"
 abbrev pub request_of : Bool → ℕ → Request
 request_of fixed address = cond fixed (Fixed address) Auto
 
 -- a size that refusal 7 is given for, 0 among them, is no BAR
-abbrev pub bar_or : BarAnswer → MemoryBar
-bar_or (Good b) = b
-bar_or Bad = no_bar
+abbrev pub bar_or : Result MemoryBar Refusal → MemoryBar
+bar_or (Ok b) = b
+bar_or (Err r) = no_bar
 
 -- place i · 6 + s of the arrays is slot s of function i
 unfoldable pub bar_in : PlaceNumbers → ℕ → ℕ → MemoryBar

@@ -8,7 +8,7 @@ ghost use Rattle.capability.specs.View.{viewed, body_of, view_copy};
 ghost use Rattle.harness.specs.Effects.{touched_none, touch_numbers, touch_checked, mode_number, mode_at};
 
 use address::config_layout::CONFIG_SPACE_SIZE;
-use address::{Access, ConfigOffset, OffsetAnswer, check};
+use address::{ConfigOffset, check};
 use capability::{
     ByteMode, EffectHit, Placed, PlacedEffect, Snapshot, ViewCopy, effect_for_access, mode_of,
     snapshot_of, view_copy,
@@ -72,12 +72,9 @@ fn touch_numbers(touch: Result<Option<EffectHit>, Refusal>) -> Touched
 pub extern "C" fn harness_touch(placed: Placed, offset: usize, width: usize, write: bool) -> Touched
     ensures { result ≡ touch_checked placed write (access_of config_space_size offset width) }
 {
-    let access = check(CONFIG_SPACE_SIZE, offset, width);
-    match access {
-        Access::Good { offset, width } => touch_numbers(effect_for_access(
-            placed, offset, width, write,
-        )),
-        Access::Refused => outside(access.number()),
+    match check(CONFIG_SPACE_SIZE, offset, width) {
+        Ok(access) => touch_numbers(effect_for_access(placed, access.offset, access.width, write)),
+        Err(refusal) => outside(refusal.number()),
     }
 }
 
@@ -98,8 +95,8 @@ pub extern "C" fn harness_mode(placed: Placed, mask: &[u8], offset: usize) -> u8
     ensures { result ≡ mode_at placed mask.now (offset_of config_space_size offset) }
 {
     match ConfigOffset::new(CONFIG_SPACE_SIZE, offset) {
-        OffsetAnswer::Good(at) => mode_number(mode_of(placed, mask, at)),
-        OffsetAnswer::Bad => MODE_OUTSIDE,
+        Some(at) => mode_number(mode_of(placed, mask, at)),
+        None => MODE_OUTSIDE,
     }
 }
 

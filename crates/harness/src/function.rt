@@ -7,9 +7,9 @@ ghost use Rattle.config.specs.Reset.{reset_done};
 ghost use Rattle.harness.specs.Function.{read_plain, read_numbers, read_reply_numbers, kind_of, write_plain, write_numbers, write_done_numbers, relocation, finished, reset_numbers};
 ghost use Rattle.config.specs.Start.{power_on_state};
 
+use address::Slot;
 use address::limits::BAR_SLOTS;
-use address::{Slot, SlotAnswer};
-use bar::{BarState, Relocation};
+use bar::BarState;
 use capability::{Placed, PlacedEffect, Snapshot};
 use config::{FunctionState, PowerOn, ReadAnswer, WriteAnswer};
 
@@ -211,14 +211,10 @@ pub extern "C" fn harness_write(
     write_out(answer, body, after)
 }
 
-fn relocation_of(accepted: bool, address: u64) -> Relocation
+fn relocation_of(accepted: bool, address: u64) -> Option<u64>
     ensures { result ≡ relocation address accepted }
 {
-    if accepted {
-        Relocation::Accepted(address)
-    } else {
-        Relocation::Kept
-    }
+    if accepted { Some(address) } else { None }
 }
 
 // The second step of a relocation; a slot above 5 changes nothing.
@@ -232,10 +228,8 @@ pub extern "C" fn harness_finish(
     ensures { result ≡ finished state (relocation address accepted) (slot_of slot) }
 {
     match Slot::new(slot) {
-        SlotAnswer::Good(at) => {
-            config::finish_relocation(state, at, relocation_of(accepted, address))
-        }
-        SlotAnswer::Bad => state,
+        Ok(at) => { config::finish_relocation(state, at, relocation_of(accepted, address)) }
+        Err(_) => state,
     }
 }
 

@@ -5,9 +5,9 @@ ghost use Rattle.address.specs.Kinds.{slot};
 ghost use Rattle.address.specs.Limits.{function_room};
 ghost use Rattle.harness.specs.Places.{request_of, bar_in, slots_in, function_in, functions_in, placed_out, place_of};
 
+use address::Slot;
 use address::limits::{BAR_SLOTS, FUNCTION_LIMIT};
-use address::{Slot, SlotAnswer};
-use bar::{Aperture, BarAnswer, MemoryBar, Request};
+use bar::{Aperture, MemoryBar, Request};
 use placement::{DeclaredBars, FunctionBars, KEY_COUNT, PlacementRefusal, resolve_bar_addresses};
 use refusal::ACCEPTED;
 
@@ -38,10 +38,7 @@ fn slot_at(index: usize) -> Slot
     requires { index < bar_count }
     ensures { result ≡ slot index }
 {
-    match Slot::new(index as u8) {
-        SlotAnswer::Good(slot) => slot,
-        SlotAnswer::Bad => Slot::zero(),
-    }
+    Slot::new(index as u8).unwrap()
 }
 
 fn request_of(fixed: bool, address: u64) -> Request
@@ -64,8 +61,8 @@ fn bar_in(request: PlaceNumbers, function: usize, slot: usize) -> MemoryBar
     let key = function * BAR_SLOTS + slot;
     let asked = request_of(fixed[key], addresses[key]);
     match MemoryBar::new(slot_at(slot), sizes[key], asked) {
-        BarAnswer::Good(bar) => bar,
-        BarAnswer::Bad => MemoryBar::none(),
+        Ok(bar) => bar,
+        Err(_) => MemoryBar::none(),
     }
 }
 

@@ -2,13 +2,14 @@
 ghost use Rattle.std.specs.Prelude.{◌≡◌};
 ghost use Rattle.address.specs.Layout.{config_space_size};
 ghost use Rattle.address.specs.Kinds.{slot};
-ghost use Rattle.address.specs.Check.{access_of, access_number};
-ghost use Rattle.bar.specs.Bar.{bar_of, bar_number};
+ghost use Rattle.address.specs.Check.{access_of};
+ghost use Rattle.bar.specs.Bar.{bar_of};
 ghost use Rattle.bar.specs.Register.{size_mask};
 ghost use Rattle.bar.specs.State.{shown, asks};
 ghost use Rattle.bar.specs.declared.memory_bar.Request.TheVariants.{Auto};
 ghost use Rattle.capability.specs.Declaration.{capability_of};
 ghost use Rattle.capability.specs.Number.{capability_answer_number};
+ghost use Rattle.refusal.specs.Refusal.{answer_number};
 ghost use Rattle.harness.specs.Scalar.{bar_with, asked_numbers};
 
 use address::config_layout::CONFIG_SPACE_SIZE;
@@ -27,17 +28,17 @@ pub struct BarAsked {
 // Refusal 18, or 0.
 #[unsafe(no_mangle)]
 pub extern "C" fn harness_check(offset: usize, width: usize) -> u8
-    ensures { result ≡ access_number (access_of config_space_size offset width) }
+    ensures { result ≡ answer_number (access_of config_space_size offset width) }
 {
-    check(CONFIG_SPACE_SIZE, offset, width).number()
+    refusal::number(check(CONFIG_SPACE_SIZE, offset, width))
 }
 
 // Refusal 7, or 0.
 #[unsafe(no_mangle)]
 pub extern "C" fn harness_size(size: u64) -> u8
-    ensures { result ≡ bar_number (bar_of (slot 0) size Auto) }
+    ensures { result ≡ answer_number (bar_of (slot 0) size Auto) }
 {
-    MemoryBar::new(Slot::zero(), size, Request::Auto).number()
+    refusal::number(MemoryBar::new(Slot::zero(), size, Request::Auto))
 }
 
 // What a BAR of this size reads while it is probed.

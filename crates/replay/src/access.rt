@@ -1,6 +1,5 @@
 // Config accesses. A record: offset, width, 1 if the access passes.
 use crate::input::next;
-use address::Access;
 use address::config_layout::CONFIG_SPACE_SIZE;
 use std::io;
 use std::io::Read;
@@ -8,11 +7,8 @@ use std::io::Read;
 // 1 where the library lets the access pass.
 fn passes(offset: usize, width: usize) -> u64 {
     match address::check(CONFIG_SPACE_SIZE, offset, width) {
-        Access::Good {
-            offset: _,
-            width: _,
-        } => 1,
-        Access::Refused => 0,
+        Ok(_) => 1,
+        Err(_) => 0,
     }
 }
 

@@ -1,8 +1,8 @@
 // The BARs that a record asks for.
 use crate::record::{DEVICES, PLACES, number};
 use address::limits::{BAR_SLOTS, FUNCTION_LIMIT};
-use address::{Slot, SlotAnswer};
-use bar::{BarAnswer, MemoryBar, Request};
+use address::Slot;
+use bar::{MemoryBar, Request};
 use placement::{DeclaredBars, FunctionBars};
 
 const KIND_NONE: u64 = 0;
@@ -11,10 +11,7 @@ const KIND_FIXED: u64 = 2;
 
 fn slot_at(index: usize) -> Slot {
     if index < BAR_SLOTS {
-        match Slot::new(index as u8) {
-            SlotAnswer::Good(slot) => return slot,
-            SlotAnswer::Bad => {}
-        }
+        return Slot::new(index as u8).unwrap_or(Slot::zero());
     }
     Slot::zero()
 }
@@ -45,10 +42,7 @@ fn bar_in(record: &[u8], function: usize, slot: usize) -> MemoryBar {
     }
     let size = number_of(record, function, slot, 1);
     let address = number_of(record, function, slot, 2);
-    match MemoryBar::new(slot_at(slot), size, request_of(kind, address)) {
-        BarAnswer::Good(bar) => bar,
-        BarAnswer::Bad => MemoryBar::none(),
-    }
+    MemoryBar::new(slot_at(slot), size, request_of(kind, address)).unwrap_or(MemoryBar::none())
 }
 
 fn bars_in(record: &[u8], function: usize) -> [MemoryBar; BAR_SLOTS] {

@@ -6,11 +6,11 @@ use Rattle.bus.proofs.read_access.absent_read.Goals as goal
 
 pub ones-requires : goal.ones-requires
 ones-requires c =
-    let r = access_is config_space_size _ _ _ _ (sym c.check.ensures ∙ c.in-Good.is) in
+    let r = access_is config_space_size _ _ _ _ (sym c.check.ensures ∙ c.in-Ok.is) in
     rw r.2 r.0.known
 
-pub returns-in-Good : goal.returns-in-Good
-returns-in-Good c = rw (c.ones.ensures, c.no_body.ensures, ← c.check.ensures, c.in-Good.is)
+pub returns-in-Ok : goal.returns-in-Ok
+returns-in-Ok c = rw (c.ones.ensures, c.no_body.ensures, ← c.check.ensures, c.in-Ok.is)
 
-pub returns-in-Refused : goal.returns-in-Refused
-returns-in-Refused c = rw (c.no_body-in-Refused.ensures, ← c.check.ensures, c.in-Refused.is)
+pub returns-in-Err : goal.returns-in-Err
+returns-in-Err c = rw (c.no_body-in-Err.ensures, ← c.check.ensures, c.in-Err.is)

@@ -2,8 +2,8 @@
 use mathlib.Core.Path.{◌∙◌}
 use Rattle.bus.proofs.write_access.absent_write.Goals as goal
 
-pub returns-in-Good : goal.returns-in-Good
-returns-in-Good c = c.done.ensures ∙ rw (c.no_body.ensures, ← c.check.ensures, c.in-Good.is)
+pub returns-in-Ok : goal.returns-in-Ok
+returns-in-Ok c = c.done.ensures ∙ rw (c.no_body.ensures, ← c.check.ensures, c.in-Ok.is)
 
-pub returns-in-Refused : goal.returns-in-Refused
-returns-in-Refused c = c.done-in-Refused.ensures ∙ rw (c.no_body-in-Refused.ensures, ← c.check.ensures, c.in-Refused.is)
+pub returns-in-Err : goal.returns-in-Err
+returns-in-Err c = c.done-in-Err.ensures ∙ rw (c.no_body-in-Err.ensures, ← c.check.ensures, c.in-Err.is)

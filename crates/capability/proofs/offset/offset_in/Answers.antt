@@ -1,11 +1,16 @@
--- `offset_in`: a value below the space is an offset, so the other arm is never reached.
-use mathlib.Core.Path.{sym, ◌∙◌}
-use native.Mathlib.Omega.{arith}
-use Rattle.address.proofs.Offsets.{offset_is, offset_none}
+use mathlib.Core.Path.{◌≡◌, sym, ◌∙◌}
+use borrow.Author.Rules.{rules}
+use Rattle.std.specs.Prelude.{Some}
+use Rattle.address.specs.Kinds.{offset}
+use Rattle.address.proofs.Offsets.{offset_good, offset_is}
 use Rattle.capability.proofs.offset.offset_in.Goals as goal
+use Rattle.capability.proofs.offset.offset_in.Goals.{After-new}
 
-pub returns-in-Good : goal.returns-in-Good
-returns-in-Good c = (offset_is _ _ _ (sym c.new.ensures ∙ c.in-Good.is)).0
+made : (c : After-new) → c.new.result ≡ Some (offset c.args.value)
+made c = c.new.ensures ∙ offset_good _ _ c.requires
 
-pub returns-in-Bad : goal.returns-in-Bad
-returns-in-Bad c = absurd (omega (arith, offset_none _ _ (sym c.new.ensures ∙ c.in-Bad.is)))
+pub unwrap-requires : goal.unwrap-requires
+unwrap-requires c = rw (made (goal.at.unwrap-requires c).After-new) (search rules)
+
+pub returns : goal.returns
+returns c = (offset_is _ _ _ (sym c.new.ensures ∙ c.unwrap.ensures)).0

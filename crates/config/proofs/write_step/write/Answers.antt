@@ -2,10 +2,10 @@
 use Rattle.config.specs.Write.{write_of}
 use Rattle.config.proofs.write_step.write.Goals as goal
 
-pub returns-in-Good : goal.returns-in-Good
+pub returns-in-Ok : goal.returns-in-Ok
 unfolding write_of
-returns-in-Good c = rw (← c.space_of.ensures, ← c.check.ensures, c.in-Good.is) c.write_good.ensures
+returns-in-Ok c = rw (← c.space_of.ensures, ← c.check.ensures, c.in-Ok.is) c.write_good.ensures
 
-pub returns-in-Refused : goal.returns-in-Refused
+pub returns-in-Err : goal.returns-in-Err
 unfolding write_of
-returns-in-Refused c = rw (← c.space_of.ensures, ← c.check.ensures, c.in-Refused.is) c.plain.ensures
+returns-in-Err c = rw (← c.space_of.ensures, ← c.check.ensures, c.in-Err.is) c.plain.ensures

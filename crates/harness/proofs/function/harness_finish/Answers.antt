@@ -2,8 +2,8 @@
 use mathlib.Core.Path.{◌∙◌}
 use Rattle.harness.proofs.function.harness_finish.Goals as goal
 
-pub returns-in-Good : goal.returns-in-Good
-returns-in-Good c = rw (← c.new.ensures, c.in-Good.is) (c.finish_relocation.ensures ∙ rw c.relocation_of.ensures)
+pub returns-in-Ok : goal.returns-in-Ok
+returns-in-Ok c = rw (← c.new.ensures, c.in-Ok.is) (c.finish_relocation.ensures ∙ rw c.relocation_of.ensures)
 
-pub returns-in-Bad : goal.returns-in-Bad
-returns-in-Bad c = rw (← c.new.ensures, c.in-Bad.is)
+pub returns-in-Err : goal.returns-in-Err
+returns-in-Err c = rw (← c.new.ensures, c.in-Err.is)

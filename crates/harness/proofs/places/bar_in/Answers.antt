@@ -14,10 +14,10 @@ use Rattle.harness.proofs.places.bar_in.Goals.{After-new}
 asked : (c : After-new) → let a = c.args in c.new.result ≡ bar_of (slot a.slot) (get_or a.request.sizes (a.function * bar_count + a.slot) 0) (request_of (get_or a.request.fixed (a.function * bar_count + a.slot) false) (get_or a.request.addresses (a.function * bar_count + a.slot) 0))
 asked c = c.new.ensures ∙ rw (c.slot_at.ensures, c.request_of-asked.ensures)
 
-pub returns-in-Good : goal.returns-in-Good
+pub returns-in-Ok : goal.returns-in-Ok
 unfolding bar_in
-returns-in-Good c = ap bar_or (sym c.in-Good.is ∙ asked (goal.at.returns-in-Good c).After-new)
+returns-in-Ok c = ap bar_or (sym c.in-Ok.is ∙ asked (goal.at.returns-in-Ok c).After-new)
 
-pub returns-in-Bad : goal.returns-in-Bad
+pub returns-in-Err : goal.returns-in-Err
 unfolding bar_in
-returns-in-Bad c = c.none.ensures ∙ ap bar_or (sym c.in-Bad.is ∙ asked (goal.at.returns-in-Bad c).After-new)
+returns-in-Err c = c.none.ensures ∙ ap bar_or (sym c.in-Err.is ∙ asked (goal.at.returns-in-Err c).After-new)

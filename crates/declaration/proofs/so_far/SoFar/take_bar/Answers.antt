@@ -11,7 +11,8 @@ use Rattle.address.specs.Limits.{limits}
 use Rattle.bar.proofs.Sizes.{size_ok_lem, bar_is}
 use Rattle.declaration.specs.Standing.{slot_used}
 use Rattle.declaration.proofs.Takings.{bar_early, bar_above, bar_no_slot, bar_used, bar_bad_size, bar_taken}
-use Rattle.declaration.proofs.Made.{slot_none, bar_none}
+use Rattle.address.proofs.Slots.{slot_refused}
+use Rattle.bar.proofs.Sizes.{bar_refused}
 use Rattle.declaration.proofs.so_far.SoFar.take_bar.Goals as goal
 use Rattle.declaration.proofs.so_far.SoFar.take_bar.Goals.{After-index-i, Else-full, Else-used}
 
@@ -19,11 +20,11 @@ use Rattle.declaration.proofs.so_far.SoFar.take_bar.Goals.{After-index-i, Else-f
 free : (c : Else-full) → all_below (slot_used c.args.self.function) bar_count ≡ false
 free c = sym c.slots_used-full.ensures ∙ c.if-full.false
 
-is_slot : (c : After-index-i) → c.in-Good.at ≡ slot c.args.slot
-is_slot c = (slot_is _ _ (sym c.new.ensures ∙ c.in-Good.is)).0
+is_slot : (c : After-index-i) → c.in-Ok.at ≡ slot c.args.slot
+is_slot c = (slot_is _ _ (sym c.new.ensures ∙ c.in-Ok.is)).0
 
 low : (c : After-index-i) → c.args.slot < bar_count
-low c = (slot_is _ _ (sym c.new.ensures ∙ c.in-Good.is)).1
+low c = (slot_is _ _ (sym c.new.ensures ∙ c.in-Ok.is)).1
 
 place : (c : After-index-i) → c.index-i.result ≡ c.args.slot
 place c = c.index-i.ensures ∙ ap index_of (is_slot c) ∙ index_is _ (low c)
@@ -42,7 +43,7 @@ returns-then-full c =
 pub returns-in_default : goal.returns-in_default
 returns-in_default c =
     let a = c.args in
-    c.refused-in_default.ensures ∙ sym (bar_no_slot limits a.self a.slot a.size a.request [] c.if-self-eq0.false (free (goal.at.returns-in_default c).Else-full) (slot_none a.slot (sym c.new.ensures ∙ c.in_default.is)))
+    c.refused-in_default.ensures ∙ sym (bar_no_slot limits a.self a.slot a.size a.request [] c.if-self-eq0.false (free (goal.at.returns-in_default c).Else-full) (slot_refused a.slot _ (sym c.new.ensures ∙ c.in_default.is)).1)
 
 pub returns-then-used : goal.returns-then-used
 returns-then-used c =
@@ -52,10 +53,10 @@ returns-then-used c =
 pub returns-in_default-new : goal.returns-in_default-new
 returns-in_default-new c =
     let a = c.args in
-    c.refused-in_default-new.ensures ∙ sym (bar_bad_size limits a.self a.slot a.size a.request [] c.if-self-eq0.false (free (goal.at.returns-in_default-new c).Else-full) (low (goal.at.returns-in_default-new c).After-index-i) (unused (goal.at.returns-in_default-new c).Else-used) (bar_none _ a.size a.request (sym c.new-2.ensures ∙ c.in_default-new.is)))
+    c.refused-in_default-new.ensures ∙ sym (bar_bad_size limits a.self a.slot a.size a.request [] c.if-self-eq0.false (free (goal.at.returns-in_default-new c).Else-full) (low (goal.at.returns-in_default-new c).After-index-i) (unused (goal.at.returns-in_default-new c).Else-used) (bar_refused _ a.size a.request _ (sym c.new-2.ensures ∙ c.in_default-new.is)).1)
 
 pub returns : goal.returns
 returns c =
     let a = c.args in
-    let r = bar_is _ a.size a.request _ (sym c.new-2.ensures ∙ c.in-Good-new.is) in
+    let r = bar_is _ a.size a.request _ (sym c.new-2.ensures ∙ c.in-Ok-new.is) in
     rw (c.accepted.ensures, c.with_function.ensures, place (goal.at.returns c).After-index-i, r.0, is_slot (goal.at.returns c).After-index-i) (sym (bar_taken limits a.self a.slot a.size a.request [] c.if-self-eq0.false (free (goal.at.returns c).Else-full) (low (goal.at.returns c).After-index-i) (unused (goal.at.returns c).Else-used) (size_ok_lem a.size r.1)))
