@@ -1,5 +1,5 @@
 -- What the cases ask about: a BAR, capabilities, an effect, a function at power-on. Each has the shape that code holds.
-use Rattle.std.specs.Prelude.{ℕ, Bool, List, [], ◌∷◌, replicate}
+use Rattle.std.specs.Prelude.{ℕ, Bool, List, [], ◌∷◌, replicate, None}
 use Rattle.address.specs.Layout.{config_space_size, bar_count}
 use Rattle.address.specs.Limits.{limits, capability_room, effect_room, config_byte_room}
 use Rattle.address.specs.Kinds.{slot, offset}
@@ -19,7 +19,6 @@ use Rattle.bar.specs.State.{no_state}
 use Rattle.config.specs.PowerOn.{power_on_of}
 use Rattle.config.specs.Start.{power_on_state}
 use Rattle.config.specs.declared.function.Contents.{Contents}
-use Rattle.config.specs.declared.function.Intx.TheVariants as intx
 use Rattle.config.specs.declared.state.FunctionState.{FunctionState}
 
 -- capabilities with bodies of these lengths
@@ -40,7 +39,7 @@ abbrev pub contents : Contents
 contents =
     record {
       identity = record { vendor = 0x1234; device = 0x5678; subsystem_vendor = 0; subsystem = 0; revision = 1; base_class = 1; subclass = 8; programming_interface = 2 };
-      intx = intx.Absent;
+      intx = None;
       bytes = replicate config_byte_room no_config_byte;
       byte_count = 0;
       bodies = replicate body_space 0;

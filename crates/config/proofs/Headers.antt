@@ -21,6 +21,7 @@ use Rattle.config.specs.PowerOn.{identity_fields, intx_fields, command_fields, c
 use Rattle.config.specs.declared.function.ConfigByte.{ConfigByte}
 use Rattle.config.specs.declared.function.Contents.{Contents}
 use Rattle.config.specs.declared.function.Intx.{Intx}
+use Rattle.std.proofs.Common.{Option}
 use Rattle.config.proofs.Fields.{any_has, none_append, under_front, under_back, under_none}
 use Rattle.config.proofs.Images.{late_fields, after_intx, mask_byte}
 use Rattle.config.proofs.Layings.{starts_from}
@@ -39,7 +40,7 @@ header_of j h n c =
     record { low = h; not_line_size = λ e. ⊎_elim (λ a. omega arith) (λ a. omega arith) c; not_timer = λ e. ⊎_elim (λ a. omega arith) (λ a. omega arith) c; not_line = n }
 
 -- what INTx and the list do not have
-pub intx_none : (x : Intx) (j : ℕ) → j < layout.interrupt_line → any_has (intx_fields x) j ≡ false
+pub intx_none : (x : Option Intx) (j : ℕ) → j < layout.interrupt_line → any_has (intx_fields x) j ≡ false
 intx_none x j h = never _ (λ t. omega (arith, (intx_places x j t).from))
 
 pub list_none : (p : Placed) (j : ℕ) → (j ≡ layout.status → ⊥) → (j ≡ layout.capability_pointer → ⊥) → any_has (list_fields p) j ≡ false

@@ -18,7 +18,7 @@ use Rattle.config.specs.Field.{at, under}
 use Rattle.config.specs.PowerOn.{identity_fields, intx_fields, pin_of, list_fields, power_on_of}
 use Rattle.config.specs.declared.function.Contents.{Contents}
 use Rattle.config.specs.declared.function.Intx.{Intx}
-use Rattle.config.specs.declared.function.Intx.TheVariants.{Absent, Pin}
+use Rattle.std.proofs.Common.{Option, None, Some}
 use Rattle.config.proofs.Fields.{under_end, under_none}
 use Rattle.config.proofs.Headers.{header_of, list_none, header_image, list_image, blank_image}
 use Rattle.config.proofs.Layings.{start_past, start_byte}
@@ -39,10 +39,10 @@ pointer_listed p =
     (λ (t : eqb (capability_count p) 0 ≡ false). rw t (stands_byte {o = layout.capability_pointer} {v = start_of p 0} {fs = at layout.status 1 layout.capabilities_list ∷ at layout.capability_pointer 1 (start_of p 0) ∷ []} 0 (later (here refl))))
     (true_or_false (eqb (capability_count p) 0))
 
-pin_under : (x : Intx) → under 0 (intx_fields x) layout.interrupt_pin ≡ pin_of x % 256
+pin_under : (x : Option Intx) → under 0 (intx_fields x) layout.interrupt_pin ≡ pin_of x % 256
 unfolding clear
-pin_under Absent = under_end 0 layout.interrupt_pin
-pin_under (Pin pin line) = stands_byte {o = layout.interrupt_pin} {v = pin} {fs = intx_fields (Pin pin line)} 0 (later (here refl))
+pin_under None = under_end 0 layout.interrupt_pin
+pin_under (Some x) = stands_byte {o = layout.interrupt_pin} {v = x.pin} {fs = intx_fields (Some x)} 0 (later (here refl))
 
 module _ (space : ℕ) (f : Contents) (bars : List BarState) (p : Placed) (s : Admitted space f p) where
   -- "With any capability, status gets 0x10 and 0x34 the first offset."

@@ -2,7 +2,7 @@
 use Prim.Native.Nat.{ℕ, ◌<◌, ◌≤◌}
 use mathlib.Core.Bool.{true, false, ◌&&◌}
 use mathlib.Core.Logic.{◌⊎◌, inl, inr, ⊎_elim}
-use mathlib.Core.Path.{◌≡◌, refl}
+use mathlib.Core.Path.{◌≡◌, refl, ap}
 use native.Mathlib.Omega.{arith}
 use borrow.Author.Tests.{leb-true, ltb-true, ne_eqb, lt-leb, not-false}
 use lib.Dec.{leb, ltb}
@@ -13,8 +13,9 @@ use Rattle.word.proofs.Tests.{below_or_not, both, and_left, and_right, or_cases}
 use Rattle.word.proofs.Searches.{First, any_never, first_is, first_none, found_first, none_never}
 use Rattle.capability.specs.Mode.{holder_of}
 use Rattle.capability.specs.declared.placed.Placed.{Placed}
-use Rattle.config.specs.ConfigByte.{byte_count, byte_offset, header_byte, byte_ok, byte_bad, byte_check_of}
-use Rattle.config.specs.declared.config_byte.ByteCheck.TheVariants as byte_check
+use Rattle.config.specs.ConfigByte.{byte_count, byte_offset, header_byte, byte_ok, byte_bad, bad, byte_check_of}
+use Rattle.std.proofs.Common.{Result, Ok}
+use Rattle.config.specs.declared.config_byte.BadConfigByte.{BadConfigByte}
 use Rattle.config.specs.declared.function.Contents.{Contents}
 
 nobody_is : (h : Option ℕ) → is_none h ≡ true → h ≡ None
@@ -32,11 +33,11 @@ pub header_bytes : (o : ℕ) {A : Type 0} → header_byte o ≡ true → standar
 header_bytes o e h =
     absurd (both e (rw (ne_eqb o cache_line_size (λ q. omega arith), ne_eqb o latency_timer (λ q. omega arith), ne_eqb o interrupt_line (λ q. omega arith))))
 
-bad_one : (a b : ℕ) → byte_check.Bad a ≡ byte_check.Bad b → a ≡ b
-bad_one a b e = cc
+bad_one : (a b : ℕ) → bad a ≡ bad b → a ≡ b
+bad_one a b e = let q : ◌≡◌ {A = BadConfigByte} (record { 0 = a }) (record { 0 = b }) = cc in ap (λ (x : BadConfigByte). x.0) q
 
-bad_good : (a : ℕ) → byte_check.Bad a ≡ byte_check.Good → ⊥
-bad_good a e = let z : ◌≡◌ {A = ℕ} 0 1 = cc in omega arith
+bad_good : (a : ℕ) → bad a ≡ Ok tt → ⊥
+bad_good a e = cc
 
 module _ (space : ℕ) (p : Placed) (o : ℕ) where
   -- where a config byte may stand, and nowhere else
@@ -62,20 +63,20 @@ module _ (space : ℕ) (p : Placed) (o : ℕ) where
 
 module _ (space : ℕ) (f : Contents) (p : Placed) where
   -- the search's two ends
-  pub check_bad : (i : ℕ) → i < byte_count f → any_below (byte_bad space f p) i ≡ false → byte_bad space f p i ≡ true → byte_check_of space f p ≡ byte_check.Bad i
+  pub check_bad : (i : ℕ) → i < byte_count f → any_below (byte_bad space f p) i ≡ false → byte_bad space f p i ≡ true → byte_check_of space f p ≡ bad i
   unfolding byte_check_of
-  check_bad i h b e = first_is byte_check.Bad byte_check.Good (byte_bad space f p) (byte_count f) i (record { below = h; before = any_never (byte_bad space f p) i b; here = e })
+  check_bad i h b e = first_is bad (Ok tt) (byte_bad space f p) (byte_count f) i (record { below = h; before = any_never (byte_bad space f p) i b; here = e })
 
-  pub check_good : any_below (byte_bad space f p) (byte_count f) ≡ false → byte_check_of space f p ≡ byte_check.Good
+  pub check_good : any_below (byte_bad space f p) (byte_count f) ≡ false → byte_check_of space f p ≡ Ok tt
   unfolding byte_check_of
-  check_good h = first_none byte_check.Bad byte_check.Good (byte_bad space f p) (byte_count f) (any_never (byte_bad space f p) (byte_count f) h)
+  check_good h = first_none bad (Ok tt) (byte_bad space f p) (byte_count f) (any_never (byte_bad space f p) (byte_count f) h)
 
   -- a good answer: every config byte stands where it may
-  pub good_each : byte_check_of space f p ≡ byte_check.Good → (i : ℕ) → i < byte_count f → byte_ok space p (byte_offset f i) ≡ true
+  pub good_each : byte_check_of space f p ≡ Ok tt → (i : ℕ) → i < byte_count f → byte_ok space p (byte_offset f i) ≡ true
   unfolding byte_check_of
-  good_each e i h = not-false (byte_ok space p (byte_offset f i)) (none_never byte_check.Bad byte_check.Good bad_one bad_good (byte_bad space f p) (byte_count f) e i h)
+  good_each e i h = not-false (byte_ok space p (byte_offset f i)) (none_never bad (Ok tt) bad_one bad_good (byte_bad space f p) (byte_count f) e i h)
 
   -- a bad one: the first that does not
-  pub bad_first : (i : ℕ) → byte_check_of space f p ≡ byte_check.Bad i → First (byte_bad space f p) (byte_count f) i
+  pub bad_first : (i : ℕ) → byte_check_of space f p ≡ bad i → First (byte_bad space f p) (byte_count f) i
   unfolding byte_check_of
-  bad_first i e = found_first byte_check.Bad byte_check.Good bad_one bad_good (byte_bad space f p) (byte_count f) i e
+  bad_first i e = found_first bad (Ok tt) bad_one bad_good (byte_bad space f p) (byte_count f) i e

@@ -26,7 +26,7 @@ use Rattle.config.specs.State.{bar_at}
 use Rattle.config.specs.declared.function.ConfigByte.{ConfigByte}
 use Rattle.config.specs.declared.function.Identity.{Identity}
 use Rattle.config.specs.declared.function.Intx.{Intx}
-use Rattle.config.specs.declared.function.Intx.TheVariants.{Absent, Pin}
+use Rattle.std.proofs.Common.{Option, None, Some}
 use Rattle.config.proofs.Fields.{any_has, none_has, one_has, first_of, one_of}
 use Rattle.config.proofs.Stages.{stage_has}
 use Rattle.config.proofs.Standing.{clear, clear_none}
@@ -52,12 +52,12 @@ bar_places bars n j e =
     let w = bar_place (bar_at bars r.0) r.0 j r.2 in
     record { from = omega (arith, w.from); to = omega (arith, w.to, r.1) }
 
-pub intx_places : (x : Intx) (j : ℕ) → any_has (intx_fields x) j ≡ true → Within layout.interrupt_line 2 j
-intx_places Absent j e = none_has j e
-intx_places (Pin pin line) j e =
+pub intx_places : (x : Option Intx) (j : ℕ) → any_has (intx_fields x) j ≡ true → Within layout.interrupt_line 2 j
+intx_places None j e = none_has j e
+intx_places (Some x) j e =
     ⊎_elim (λ t. let w = covers_within layout.interrupt_line 1 j t in record { from = omega (arith, w.from); to = omega (arith, w.to) })
-    (λ t. let w = covers_within layout.interrupt_pin 1 j (one_has (at layout.interrupt_pin 1 pin) j t) in record { from = omega (arith, w.from); to = omega (arith, w.to) })
-    (first_of (at layout.interrupt_line 1 line) (at layout.interrupt_pin 1 pin ∷ []) j e)
+    (λ t. let w = covers_within layout.interrupt_pin 1 j (one_has (at layout.interrupt_pin 1 x.pin) j t) in record { from = omega (arith, w.from); to = omega (arith, w.to) })
+    (first_of (at layout.interrupt_line 1 x.line) (at layout.interrupt_pin 1 x.pin ∷ []) j e)
 
 pub command_places : (j : ℕ) → any_has command_fields j ≡ true → (j ≡ layout.command) ⊎ (j ≡ (layout.command + 1))
 command_places j e =

@@ -20,7 +20,7 @@ use Rattle.config.specs.State.{bar_at}
 use Rattle.config.specs.declared.function.ConfigByte.{ConfigByte}
 use Rattle.config.specs.declared.function.Contents.{Contents}
 use Rattle.config.specs.declared.function.Intx.{Intx}
-use Rattle.config.specs.declared.function.Intx.TheVariants.{Absent, Pin}
+use Rattle.std.proofs.Common.{Option, None, Some}
 use Rattle.config.proofs.Fields.{under_end, under_more}
 use Rattle.config.proofs.Stages.{stage_by}
 use Rattle.config.proofs.Images.{image_byte, mask_byte}
@@ -51,9 +51,9 @@ stage_bytes f h n = stage_by f Bytes none (λ fs gs a b. bytes_append a b) h n
 config_bytes_lem : (g : ConfigByte → ℕ) (bytes : List ConfigByte) (n : ℕ) → Bytes (config_fields g bytes n)
 config_bytes_lem g bytes n = stage_bytes _ (λ i. at_bytes none) n
 
-intx_bytes : (x : Intx) → Bytes (intx_fields x)
-intx_bytes Absent = none
-intx_bytes (Pin pin line) = at_bytes (at_bytes none)
+intx_bytes : (x : Option Intx) → Bytes (intx_fields x)
+intx_bytes None = none
+intx_bytes (Some x) = at_bytes (at_bytes none)
 
 bar_bytes : (b : BarState) (n : ℕ) → Bytes (bar_field b n)
 bar_bytes b n =

@@ -1,13 +1,11 @@
 -- Where config bytes may stand: refusal 9 of document 01.
-use Rattle.std.specs.Prelude.{is_none, ℕ, ◌<◌, min, Bool, true, false, not, ◌&&◌, ◌||◌, ◌≡◌, eqb, leb, ltb, length, get_or}
-use Rattle.refusal.specs.Number.{accepted, bad_config_byte}
+use Rattle.std.specs.Prelude.{is_none, ℕ, ◌<◌, min, Bool, true, false, not, ◌&&◌, ◌||◌, ◌≡◌, eqb, leb, ltb, length, get_or, Result, Ok, Err}
 use Rattle.address.specs.Kinds.{offset}
 use Rattle.address.specs.Layout.{cache_line_size, latency_timer, interrupt_line, standard_header_end}
 use Rattle.word.specs.Search.{first_of}
 use Rattle.capability.specs.Mode.{holder_of}
 use Rattle.capability.specs.declared.placed.Placed.{Placed}
-use Rattle.config.specs.declared.config_byte.ByteCheck.{ByteCheck}
-use Rattle.config.specs.declared.config_byte.ByteCheck.TheVariants as byte_check
+use Rattle.config.specs.declared.config_byte.BadConfigByte.{BadConfigByte}
 use Rattle.config.specs.declared.function.ConfigByte.{ConfigByte}
 use Rattle.config.specs.declared.function.Contents.{Contents}
 
@@ -34,14 +32,13 @@ byte_ok space p o = header_byte o || (leb standard_header_end o && (ltb o space 
 abbrev pub byte_bad : ℕ → Contents → Placed → ℕ → Bool
 byte_bad space f p i = not (byte_ok space p (byte_offset f i))
 
--- the first config byte that is, by its index
-unfoldable pub byte_check_of : ℕ → Contents → Placed → ByteCheck
-byte_check_of space f p = first_of byte_check.Bad byte_check.Good (byte_bad space f p) (byte_count f)
+-- refused is one by its index
+abbrev pub bad : ℕ → Result Unit BadConfigByte
+bad i = Err (record { 0 = i })
 
--- document 01's number for each answer
-abbrev pub byte_check_number : ByteCheck → ℕ
-byte_check_number byte_check.Good = accepted
-byte_check_number (byte_check.Bad i) = bad_config_byte
+-- the first config byte that is refused
+unfoldable pub byte_check_of : ℕ → Contents → Placed → Result Unit BadConfigByte
+byte_check_of space f p = first_of bad (Ok tt) (byte_bad space f p) (byte_count f)
 
 -- "the later of two at one offset wins": the last config byte at its offset
 pub record Last (f : Contents) (i : ℕ) : Type 0 where

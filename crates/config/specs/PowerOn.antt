@@ -1,5 +1,5 @@
 -- The power-on image and the write masks of a function, as fields in document 01's order ("Power-on image").
-use Rattle.std.specs.Prelude.{ℕ, ◌+◌, cond, List, [], ◌∷◌, ◌++◌, eqb, get_or}
+use Rattle.std.specs.Prelude.{ℕ, ◌+◌, cond, Option, None, Some, List, [], ◌∷◌, ◌++◌, eqb, get_or}
 use Rattle.address.specs.Layout as layout
 use Rattle.address.specs.Kinds.{slot, register_of}
 use Rattle.bar.specs.Register.{committed}
@@ -13,7 +13,6 @@ use Rattle.config.specs.Command.{command_low, command_high}
 use Rattle.config.specs.State.{bar_at}
 use Rattle.config.specs.declared.function.Identity.{Identity}
 use Rattle.config.specs.declared.function.Intx.{Intx}
-use Rattle.config.specs.declared.function.Intx.TheVariants.{Absent, Pin}
 use Rattle.config.specs.declared.function.ConfigByte.{ConfigByte}
 use Rattle.config.specs.declared.function.Contents.{Contents}
 use Rattle.config.specs.declared.power_on.PowerOn.{PowerOn}
@@ -33,14 +32,14 @@ identity_fields i =
     []
 
 -- "line 0x3c, pin 0x3d (1 to 4; both zero without INTx)"
-abbrev pub intx_fields : Intx → List Field
-intx_fields Absent = []
-intx_fields (Pin pin line) = at layout.interrupt_line 1 line ∷ at layout.interrupt_pin 1 pin ∷ []
+abbrev pub intx_fields : Option Intx → List Field
+intx_fields None = []
+intx_fields (Some x) = at layout.interrupt_line 1 x.line ∷ at layout.interrupt_pin 1 x.pin ∷ []
 
 -- the declared pin
-abbrev pub pin_of : Intx → ℕ
-pin_of Absent = 0
-pin_of (Pin pin line) = pin
+abbrev pub pin_of : Option Intx → ℕ
+pin_of None = 0
+pin_of (Some x) = x.pin
 
 -- the command bits that are writable
 abbrev pub command_fields : List Field

@@ -1,28 +1,23 @@
 // Where config bytes may stand: refusal 9.
 ghost use Rattle.std.specs.Prelude.{◌≡◌};
-ghost use Rattle.config.specs.ConfigByte.{byte_count, byte_ok, byte_check_of, byte_check_number};
+ghost use Rattle.config.specs.ConfigByte.{byte_count, byte_ok, byte_check_of};
+ghost use Rattle.refusal.specs.declared.refusal.Refusal.TheVariants.{BadConfigByte as bad_config_byte};
 
 use crate::function::Contents;
 use address::limits::CONFIG_BYTE_LIMIT;
 use address::{ConfigOffset, config_layout};
 use capability::{Placed, capability_at};
+use refusal::Refusal;
 
-// With the index of the config byte at fault.
-#[derive(Clone, Copy)]
-pub enum ByteCheck {
-    Good,
-    Bad(usize),
-}
+// The config byte at fault, by its index.
+#[derive(Clone, Copy, Debug, PartialEq, Eq)]
+pub struct BadConfigByte(pub usize);
 
-impl ByteCheck {
-    // Document 01's number for the answer.
-    pub fn number(self) -> u8
-        ensures { result ≡ byte_check_number self }
-    {
-        match self {
-            ByteCheck::Good => refusal::ACCEPTED,
-            ByteCheck::Bad(_) => refusal::BAD_CONFIG_BYTE,
-        }
+impl From<BadConfigByte> for Refusal {
+    ghost from_gives = { λ _ refusal. refusal ≡ bad_config_byte };
+
+    fn from(_bad: BadConfigByte) -> Refusal {
+        Refusal::BadConfigByte
     }
 }
 
@@ -57,7 +52,9 @@ fn byte_ok(space: u16, placed: Placed, offset: ConfigOffset) -> bool
 }
 
 // Refusal 9: the first config byte that may not stand where it is.
-pub fn check_config_bytes(space: u16, contents: Contents, placed: Placed) -> ByteCheck
+pub fn check_config_bytes(
+    space: u16, contents: Contents, placed: Placed,
+) -> Result<(), BadConfigByte>
     ensures { result ≡ byte_check_of space contents placed }
 {
     let n = byte_count(contents);
@@ -65,8 +62,8 @@ pub fn check_config_bytes(space: u16, contents: Contents, placed: Placed) -> Byt
         let byte = contents.bytes[i];
         let good = byte_ok(space, placed, byte.offset);
         if !good {
-            return ByteCheck::Bad(i);
+            return Err(BadConfigByte(i));
         }
     }
-    ByteCheck::Good
+    Ok(())
 }

@@ -21,10 +21,11 @@ pub struct Identity {
     pub programming_interface: u8,
 }
 
-#[derive(Clone, Copy)]
-pub enum Intx {
-    Absent,
-    Pin { pin: u8, line: u8 },
+// The pin, 1 to 4, and the line.
+#[derive(Clone, Copy, Debug, PartialEq, Eq)]
+pub struct Intx {
+    pub pin: u8,
+    pub line: u8,
 }
 
 #[repr(C)]
@@ -39,7 +40,7 @@ pub struct ConfigByte {
 #[derive(Clone, Copy)]
 pub struct Contents {
     pub identity: Identity,
-    pub intx: Intx,
+    pub intx: Option<Intx>,
     pub bytes: [ConfigByte; CONFIG_BYTE_LIMIT],
     pub byte_count: usize,
     pub bodies: [u8; BODY_SPACE],

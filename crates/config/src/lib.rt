@@ -14,12 +14,12 @@ mod state;
 mod store_leaf;
 mod write_step;
 
-pub use config_byte::{ByteCheck, check_config_bytes};
+pub use config_byte::{BadConfigByte, check_config_bytes};
 pub use function::{BODY_SPACE, ConfigByte, Contents, Function, Identity, Intx};
 pub use in_place::{ConfigWrite, write_in_place};
 pub use power_on::PowerOn;
 pub use read_step::{ReadAnswer, ReadReply, read};
-pub use reset_step::{ResetAnswer, ResetDone, reset};
+pub use reset_step::{ResetDone, reset};
 pub use state::{FunctionState, no_body};
 pub use store_leaf::{LARGEST_REVISION, store_live};
 pub use write_step::{WriteAnswer, WriteDone, WriteReply, finish_at, finish_relocation, write};

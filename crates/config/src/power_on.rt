@@ -69,15 +69,15 @@ fn put_identity(image: &mut [u8], identity: Identity)
     );
 }
 
-fn put_intx(image: &mut [u8], intx: Intx)
+fn put_intx(image: &mut [u8], intx: Option<Intx>)
     ensures { image.new ≡ laid image.old (intx_fields intx) }
 {
     match intx {
-        Intx::Absent => {}
-        Intx::Pin { pin, line } => {
+        Some(Intx { pin, line }) => {
             put_byte(image, config_layout::CONFIG_INTERRUPT_LINE_OFFSET, line);
             put_byte(image, config_layout::CONFIG_INTERRUPT_PIN_OFFSET, pin);
         }
+        None => {}
     }
 }
 

@@ -1,35 +1,18 @@
 // A function's reset.
 ghost use Rattle.std.specs.Prelude.{◌≡◌, map};
 ghost use Rattle.bar.specs.State.{reset_of};
-ghost use Rattle.config.specs.Reset.{reset_done, reset_number};
+ghost use Rattle.config.specs.Reset.{reset_done};
 
 use crate::state::FunctionState;
 use crate::store_leaf::LARGEST_REVISION;
 use address::limits::BAR_SLOTS;
 use bar::BarState;
+use refusal::Refusal;
 
-// Restored; or 20, with the revision at its largest and everything else restored.
-#[derive(Clone, Copy)]
-pub enum ResetAnswer {
-    Restored,
-    Exhausted,
-}
-
-impl ResetAnswer {
-    // Document 01's number for the answer.
-    pub fn number(self) -> u8
-        ensures { result ≡ reset_number self }
-    {
-        match self {
-            ResetAnswer::Restored => refusal::ACCEPTED,
-            ResetAnswer::Exhausted => refusal::REVISION_EXHAUSTED,
-        }
-    }
-}
-
+// Restored; or 20, with the revision at its largest and everything else restored, so the state stands beside the answer.
 #[derive(Clone, Copy)]
 pub struct ResetDone {
-    pub answer: ResetAnswer,
+    pub answer: Result<(), Refusal>,
     pub state: FunctionState,
 }
 
@@ -52,13 +35,13 @@ pub fn reset(state: FunctionState) -> ResetDone
     let n = state.revision;
     if n == LARGEST_REVISION {
         return ResetDone {
-            answer: ResetAnswer::Exhausted,
+            answer: Err(Refusal::RevisionExhausted),
             state: out,
         };
     }
     out.revision = n + 1;
     ResetDone {
-        answer: ResetAnswer::Restored,
+        answer: Ok(()),
         state: out,
     }
 }

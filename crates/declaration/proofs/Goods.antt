@@ -13,8 +13,8 @@ use Rattle.capability.specs.declared.layout.LayoutAnswer.TheVariants as layout_a
 use Rattle.capability.proofs.Laids.{placed_laid}
 use Rattle.capability.proofs.Rulings.{ruling_is}
 use Rattle.config.specs.Admitted.{Admitted}
-use Rattle.config.specs.ConfigByte.{byte_count, byte_check_of}
-use Rattle.config.specs.declared.config_byte.ByteCheck.TheVariants as byte_check
+use Rattle.config.specs.ConfigByte.{byte_count, bad, byte_check_of}
+use Rattle.std.proofs.Common.{Ok}
 use Rattle.config.specs.declared.function.Function.{Function}
 use Rattle.declaration.specs.Answer.{declaration_with, declared_by}
 use Rattle.declaration.specs.Exactly.{bad_byte_at, Reached, start, field, Read, Faultless, FaultyAt, Passed}
@@ -84,9 +84,9 @@ module _ (f : Function) (h : Faultless f) where
   unfolding layout_of
   faultless_layout = rw faultless_placed
 
-  pub faultless_checked : byte_check_of config_space_size f.contents (placed_of f.capabilities) ≡ byte_check.Good
+  pub faultless_checked : byte_check_of config_space_size f.contents (placed_of f.capabilities) ≡ Ok tt
   unfolding byte_check_of
-  faultless_checked = first_none byte_check.Bad byte_check.Good (bad_byte_at f) (byte_count f.contents) h.bytes
+  faultless_checked = first_none bad (Ok tt) (bad_byte_at f) (byte_count f.contents) h.bytes
 
   pub faultless_admitted : Admitted config_space_size f.contents (placed_of f.capabilities)
   faultless_admitted = record { wide = omega arith; laid = placed_laid f.capabilities config_space_size faultless_placed; checked = faultless_checked }

@@ -20,7 +20,8 @@ use Rattle.capability.specs.Size.{body_most}
 use Rattle.capability.specs.BadEffect.{effect_bad}
 use Rattle.capability.specs.declared.effect.EffectAccess.{EffectAccess}
 use Rattle.config.specs.declared.function.Identity.{Identity}
-use Rattle.declaration.specs.Standing.{is_present, slot_used, device_bad}
+use Rattle.std.specs.Option.{is_some}
+use Rattle.declaration.specs.Standing.{slot_used, device_bad}
 use Rattle.declaration.specs.Take.{with_field, taken, taken_said}
 use Rattle.declaration.specs.declared.said.Said.TheVariants as said
 use Rattle.declaration.specs.declared.so_far.SoFar.{SoFar}
@@ -80,11 +81,11 @@ module _ (l : Limits) (s : SoFar) (pin line : ℕ) (body : List ℕ) where
   intx_early h = rw (none s h)
 
   module _ (h : s.count ≡ 0 → ⊥) where
-    pub intx_repeated : is_present s.function.contents.intx ≡ true → taken_said l s (said.Intx pin line) body ≡ taken out_of_order s
+    pub intx_repeated : is_some s.function.contents.intx ≡ true → taken_said l s (said.Intx pin line) body ≡ taken out_of_order s
     unfolding taken_said
     intx_repeated e = rw (present s h, e)
 
-    pub intx_taken : is_present s.function.contents.intx ≡ false → taken_said l s (said.Intx pin line) body ≡ taken accepted (with_field s (said.Intx pin line) body)
+    pub intx_taken : is_some s.function.contents.intx ≡ false → taken_said l s (said.Intx pin line) body ≡ taken accepted (with_field s (said.Intx pin line) body)
     unfolding taken_said
     intx_taken e = rw (present s h, e)
 

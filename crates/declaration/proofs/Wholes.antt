@@ -15,8 +15,8 @@ use Rattle.capability.specs.Ruling.{Ruling}
 use Rattle.capability.specs.declared.layout.LayoutAnswer.{LayoutAnswer}
 use Rattle.capability.specs.declared.layout.LayoutAnswer.TheVariants as layout_answer
 use Rattle.capability.proofs.Rulings.{ruling, ruling_is}
-use Rattle.config.specs.ConfigByte.{byte_count, byte_check_of}
-use Rattle.config.specs.declared.config_byte.ByteCheck.TheVariants as byte_check
+use Rattle.config.specs.ConfigByte.{byte_count, bad, byte_check_of}
+use Rattle.std.proofs.Common.{Ok}
 use Rattle.config.specs.declared.function.Function.{Function}
 use Rattle.declaration.specs.Answer.{accepted_with, refused_with, checked_whole}
 use Rattle.declaration.specs.Exactly.{bad_byte_at, FirstFault, repeated_id, past_end, bad_byte, Faultless}
@@ -39,11 +39,11 @@ module _ (f : Function) where
   module _ (e : answer_of config_space_size f.capabilities ≡ layout_answer.Placed) where
     byte_fault_lem : (i : ℕ) → First (bad_byte_at f) (byte_count f.contents) i → fault_of f ≡ fault bad_config_byte i
     unfolding fault_of layout_of byte_check_of
-    byte_fault_lem i h = rw (e, first_is byte_check.Bad byte_check.Good (bad_byte_at f) (byte_count f.contents) i h)
+    byte_fault_lem i h = rw (e, first_is bad (Ok tt) (bad_byte_at f) (byte_count f.contents) i h)
 
     no_fault : ((k : ℕ) → k < byte_count f.contents → bad_byte_at f k ≡ false) → fault_of f ≡ fault accepted 0
     unfolding fault_of layout_of byte_check_of
-    no_fault h = rw (e, first_none byte_check.Bad byte_check.Good (bad_byte_at f) (byte_count f.contents) h)
+    no_fault h = rw (e, first_none bad (Ok tt) (bad_byte_at f) (byte_count f.contents) h)
 
   pub fault_is : (n i : ℕ) → FirstFault f n i → fault_of f ≡ fault n i
   fault_is n i (repeated_id k r) = repeated_fault k (ruling_is config_space_size f.capabilities (layout_answer.Repeated k) r)

@@ -1,5 +1,5 @@
 -- What is there before anything is declared: an empty function, and a declaration with nothing in it.
-use Rattle.std.specs.Prelude.{ℕ, false, List, replicate}
+use Rattle.std.specs.Prelude.{ℕ, false, List, replicate, None}
 use Rattle.address.specs.Layout.{bar_count}
 use Rattle.address.specs.Limits.{function_room, config_byte_room}
 use Rattle.bar.specs.Bar.{no_bar}
@@ -8,7 +8,6 @@ use Rattle.capability.specs.Size.{body_most}
 use Rattle.capability.specs.Declaration.{none_declared}
 use Rattle.config.specs.ConfigByte.{no_config_byte}
 use Rattle.config.specs.declared.function.Identity.{Identity}
-use Rattle.config.specs.declared.function.Intx.TheVariants as intx
 use Rattle.config.specs.declared.function.Contents.{Contents}
 use Rattle.config.specs.declared.function.Function.{Function}
 use Rattle.config.specs.Space.{body_space}
@@ -17,7 +16,7 @@ use Rattle.declaration.specs.declared.so_far.SoFar.{SoFar}
 -- the contents of a function of which only the identity is declared
 unfoldable pub empty_contents : Identity → Contents
 empty_contents identity =
-    record { identity = identity; intx = intx.Absent; bytes = replicate config_byte_room no_config_byte; byte_count = 0; bodies = replicate body_space 0; masks = replicate body_space 0 }
+    record { identity = identity; intx = None; bytes = replicate config_byte_room no_config_byte; byte_count = 0; bodies = replicate body_space 0; masks = replicate body_space 0 }
 
 -- a function with a device and an identity, and nothing else declared of it
 unfoldable pub empty_function : ℕ → Identity → Function

@@ -1,5 +1,5 @@
 -- What an accepted file declares, for the bus and what is shown of it: proofs/Goods.antt shows that every accepted file of bytes declares this, and that a refused one declares nothing.
-use Rattle.std.specs.Prelude.{ℕ, ◌+◌, ◌-◌, ◌^◌, ◌<◌, ◌≤◌, true, List, ◌≡◌, length, get_or}
+use Rattle.std.specs.Prelude.{ℕ, ◌+◌, ◌-◌, ◌^◌, ◌<◌, ◌≤◌, true, List, ◌≡◌, length, get_or, Option, None, Some}
 use Rattle.word.specs.Interval.{covers}
 use Rattle.address.specs.Kinds.{slot}
 use Rattle.address.specs.Layout.{absent_vendor_id, bar_count, standard_header_end}
@@ -22,7 +22,6 @@ use Rattle.config.specs.declared.function.Contents.{Contents}
 use Rattle.config.specs.declared.function.Function.{Function}
 use Rattle.config.specs.declared.function.Identity.{Identity}
 use Rattle.config.specs.declared.function.Intx.{Intx}
-use Rattle.config.specs.declared.function.Intx.TheVariants as intx
 use Rattle.declaration.specs.Blank.{no_function}
 use Rattle.declaration.specs.Exactly.{Faultless}
 use Rattle.declaration.specs.Standing.{most_device}
@@ -57,9 +56,9 @@ pub record GoodIdentity (i : Identity) : Type 0 where
   pub programming_interface : i.programming_interface < 256
 
 -- no INTx, or a pin 1 to 4 and a line
-pub data GoodIntx : Intx → Type 0 where
-  absent : GoodIntx intx.Absent
-  pinned : (pin line : ℕ) → 1 ≤ pin → pin ≤ 4 → line < 256 → GoodIntx (intx.Pin pin line)
+pub data GoodIntx : Option Intx → Type 0 where
+  absent : GoodIntx None
+  pinned : (pin line : ℕ) → 1 ≤ pin → pin ≤ 4 → line < 256 → GoodIntx (Some (record { pin = pin; line = line }))
 
 pub record GoodByte (b : ConfigByte) : Type 0 where
   pub offset : b.offset.0 < 256

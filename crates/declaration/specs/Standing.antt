@@ -1,9 +1,7 @@
 -- What stands declared so far, as the rows of the table ask for it.
-use Rattle.std.specs.Prelude.{ℕ, Bool, true, false, ◌||◌, ltb, eqb, get_or}
+use Rattle.std.specs.Prelude.{ℕ, Bool, is_some, ◌||◌, ltb, eqb, get_or}
 use Rattle.word.specs.Search.{any_below}
 use Rattle.bar.specs.Bar.{no_bar}
-use Rattle.config.specs.declared.function.Intx.{Intx}
-use Rattle.config.specs.declared.function.Intx.TheVariants.{Absent, Pin}
 use Rattle.config.specs.declared.function.Function.{Function}
 use Rattle.declaration.specs.declared.so_far.SoFar.{SoFar}
 
@@ -14,12 +12,8 @@ has_function s = ltb 0 s.count
 abbrev pub has_capability : SoFar → Bool
 has_capability s = ltb 0 s.function.capabilities.count
 
-abbrev pub is_present : Intx → Bool
-is_present Absent = false
-is_present (Pin pin line) = true
-
 abbrev pub has_intx : SoFar → Bool
-has_intx s = is_present s.function.contents.intx
+has_intx s = is_some s.function.contents.intx
 
 -- whether a slot of a function has a BAR, and whether a device is declared
 abbrev pub slot_used : Function → ℕ → Bool

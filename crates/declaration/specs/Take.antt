@@ -1,5 +1,5 @@
 -- What a field does to the declaration so far: it is refused by the first check that fails, or the declaration has it.
-use Rattle.std.specs.Prelude.{ℕ, ◌+◌, ◌-◌, true, cond, List, eqb, length, set}
+use Rattle.std.specs.Prelude.{ℕ, ◌+◌, ◌-◌, true, cond, List, eqb, length, set, Some}
 use Rattle.refusal.specs.Number.{accepted}
 use Rattle.word.specs.Number.{part_of}
 use Rattle.word.specs.Store.{laid_over}
@@ -13,7 +13,6 @@ use Rattle.capability.specs.Effect.{effect}
 use Rattle.capability.specs.Offset.{offset_at}
 use Rattle.capability.specs.declared.declared.Capabilities.{Capabilities}
 use Rattle.config.specs.declared.function.Contents.{Contents}
-use Rattle.config.specs.declared.function.Intx.TheVariants as intx
 use Rattle.config.specs.declared.function.Function.{Function}
 use Rattle.declaration.specs.Blank.{empty_function, no_mask}
 use Rattle.declaration.specs.Check.{first_failing}
@@ -55,7 +54,7 @@ bodies_with c d n body =
 
 -- what each field declares
 abbrev pub with_intx : Contents → ℕ → ℕ → Contents
-with_intx c pin line = record { identity = c.identity; intx = intx.Pin pin line; bytes = c.bytes; byte_count = c.byte_count; bodies = c.bodies; masks = c.masks }
+with_intx c pin line = record { identity = c.identity; intx = Some (record { pin = pin; line = line }); bytes = c.bytes; byte_count = c.byte_count; bodies = c.bodies; masks = c.masks }
 
 abbrev pub with_byte : Contents → ℕ → ℕ → ℕ → Contents
 with_byte c o value mask =

@@ -1,6 +1,6 @@
 -- The checks after the whole file (document 01: "for each device ascending: capabilities in order (12 before 13 for each), then config bytes (9)").
-use Rattle.std.specs.Prelude.{ℕ, Bool, not, eqb}
-use Rattle.refusal.specs.Number.{accepted}
+use Rattle.std.specs.Prelude.{ℕ, Bool, not, eqb, Result, Ok, Err}
+use Rattle.refusal.specs.Number.{accepted, bad_config_byte}
 use Rattle.word.specs.Search.{first_below}
 use Rattle.address.specs.Layout.{config_space_size}
 use Rattle.capability.specs.Layout.{layout_of}
@@ -8,9 +8,8 @@ use Rattle.capability.specs.Number.{layout_answer_number}
 use Rattle.capability.specs.declared.layout.LayoutAnswer.{LayoutAnswer}
 use Rattle.capability.specs.declared.layout.LayoutAnswer.TheVariants as layout_answer
 use Rattle.capability.specs.declared.placed.Placed.{Placed}
-use Rattle.config.specs.ConfigByte.{byte_check_of, byte_check_number}
-use Rattle.config.specs.declared.config_byte.ByteCheck.{ByteCheck}
-use Rattle.config.specs.declared.config_byte.ByteCheck.TheVariants as byte_check
+use Rattle.config.specs.ConfigByte.{byte_check_of}
+use Rattle.config.specs.declared.config_byte.BadConfigByte.{BadConfigByte}
 use Rattle.config.specs.declared.function.Function.{Function}
 use Rattle.declaration.specs.Finished.{count_in, function_at}
 use Rattle.declaration.specs.declared.finished.Finished.{Finished}
@@ -20,9 +19,9 @@ use Rattle.declaration.specs.declared.whole.Fault.{Fault}
 abbrev pub fault : ℕ → ℕ → Fault
 fault number index = record { number = number; index = index }
 
-abbrev pub byte_fault : ByteCheck → Fault
-byte_fault byte_check.Good = fault accepted 0
-byte_fault (byte_check.Bad i) = fault (byte_check_number (byte_check.Bad i)) i
+abbrev pub byte_fault : Result Unit BadConfigByte → Fault
+byte_fault (Ok t) = fault accepted 0
+byte_fault (Err b) = fault bad_config_byte b.0
 
 abbrev pub layout_fault : Function → Placed → LayoutAnswer → Fault
 layout_fault f placed layout_answer.Placed = byte_fault (byte_check_of config_space_size f.contents placed)

@@ -6,7 +6,7 @@ use address::ConfigOffset;
 use address::limits::{BAR_SLOTS, CONFIG_BYTE_LIMIT, FUNCTION_LIMIT};
 use bar::{Aperture, MemoryBar};
 use capability::{CAPABILITY_BODY_MAX_SIZE, Capabilities};
-use config::{BODY_SPACE, ConfigByte, Contents, Function, Identity, Intx};
+use config::{BODY_SPACE, ConfigByte, Contents, Function, Identity};
 
 // The aperture, the devices in the order of the file, the latest function, and the write masks of its latest capability.
 #[derive(Clone, Copy)]
@@ -29,7 +29,7 @@ fn no_contents(identity: Identity) -> Contents
     };
     Contents {
         identity,
-        intx: Intx::Absent,
+        intx: None,
         bytes: [none; CONFIG_BYTE_LIMIT],
         byte_count: 0,
         bodies: [0u8; BODY_SPACE],

@@ -3,7 +3,7 @@ ghost use Rattle.std.specs.Prelude.{[], ◌≡◌};
 ghost use Rattle.word.specs.Search.{all_below};
 ghost use Rattle.address.specs.Layout.{bar_count};
 ghost use Rattle.address.specs.Limits.{limits};
-ghost use Rattle.declaration.specs.Standing.{is_present, slot_used};
+ghost use Rattle.declaration.specs.Standing.{slot_used};
 ghost use Rattle.declaration.specs.Take.{with_function, taken_said};
 
 use crate::said::Said;
@@ -13,15 +13,6 @@ use address::limits::{BAR_SLOTS, CONFIG_BYTE_LIMIT};
 use address::{ConfigOffset, Slot};
 use bar::{MemoryBar, Request};
 use config::{ConfigByte, Contents, Function, Intx};
-
-fn is_present(intx: Intx) -> bool
-    ensures { result ≡ is_present intx }
-{
-    match intx {
-        Intx::Absent => false,
-        Intx::Pin { pin: _, line: _ } => true,
-    }
-}
 
 // Whether a slot has a BAR.
 fn slot_used(function: Function, slot: usize) -> bool
@@ -67,13 +58,11 @@ impl SoFar {
         }
         let mut function = self.function;
         let contents = function.contents;
-        let intx = contents.intx;
-        let present = is_present(intx);
-        if present {
+        if contents.intx.is_some() {
             return refused(refusal::OUT_OF_ORDER, self);
         }
         let with = Contents {
-            intx: Intx::Pin { pin, line },
+            intx: Some(Intx { pin, line }),
             ..contents
         };
         function.contents = with;

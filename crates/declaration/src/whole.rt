@@ -6,7 +6,7 @@ use crate::finished::Finished;
 use address::config_layout::CONFIG_SPACE_SIZE;
 use address::limits::FUNCTION_LIMIT;
 use capability::{LayoutAnswer, layout_capabilities};
-use config::{ByteCheck, Function, check_config_bytes};
+use config::{BadConfigByte, Function, check_config_bytes};
 
 // A number, and the index of the capability or config byte; 0 and 0 where there is no fault.
 #[derive(Clone, Copy)]
@@ -15,15 +15,15 @@ pub struct Fault {
     pub index: usize,
 }
 
-fn byte_fault(check: ByteCheck) -> Fault
+fn byte_fault(check: Result<(), BadConfigByte>) -> Fault
     ensures { result ≡ byte_fault check }
 {
     match check {
-        ByteCheck::Good => Fault {
+        Ok(()) => Fault {
             number: refusal::ACCEPTED,
             index: 0,
         },
-        ByteCheck::Bad(index) => Fault {
+        Err(BadConfigByte(index)) => Fault {
             number: refusal::BAD_CONFIG_BYTE,
             index,
         },

@@ -26,6 +26,7 @@ use Rattle.config.specs.Space.{space_of}
 use Rattle.config.specs.State.{in_bar}
 use Rattle.config.specs.declared.function.Function.{Function}
 use Rattle.config.specs.declared.function.Intx.{Intx}
+use Rattle.std.proofs.Common.{Option}
 use Rattle.config.specs.declared.state.FunctionState.{FunctionState}
 use Rattle.config.proofs.CommandMasks.{zero_mask}
 use Rattle.config.proofs.Headers.{Header, header_of}
@@ -46,7 +47,7 @@ use Rattle.bus.proofs.SoundDeclared.{declared_power_on, sound_apart, sound_laid,
 use Rattle.bus.proofs.SoundParts.{sound_admitted}
 use Rattle.enumeration.specs.Enumerate.{asked, answers_byte, identity_read}
 
-pin_small : (x : Intx) → GoodIntx x → pin_of x < 256
+pin_small : (x : Option Intx) → GoodIntx x → pin_of x < 256
 pin_small x absent = omega arith
 pin_small x (pinned pin line a b c) = omega arith
 

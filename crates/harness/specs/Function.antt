@@ -4,7 +4,7 @@ use Rattle.capability.specs.Blank.{no_placed_effect}
 use Rattle.capability.specs.declared.snapshot.Snapshot.{Snapshot}
 use Rattle.config.specs.Read.{read_number}
 use Rattle.config.specs.Write.{write_number, relocated_at}
-use Rattle.config.specs.Reset.{reset_number}
+use Rattle.refusal.specs.Refusal.{answer_number}
 use Rattle.config.specs.declared.state.FunctionState.{FunctionState}
 use Rattle.config.specs.declared.read_step.ReadAnswer.{ReadAnswer}
 use Rattle.config.specs.declared.read_step.ReadAnswer.TheVariants as read
@@ -82,4 +82,4 @@ finished f r (Err e) = f
 
 -- the answer of a reset, with the state after it
 abbrev pub reset_numbers : ResetDone → ResetOut
-reset_numbers d = record { refusal = reset_number d.answer; state = d.state }
+reset_numbers d = record { refusal = answer_number d.answer; state = d.state }

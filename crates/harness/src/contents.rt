@@ -10,8 +10,9 @@ use address::config_layout::CONFIG_SPACE_SIZE;
 use address::limits::CONFIG_BYTE_LIMIT;
 use capability::Placed;
 use config::{
-    BODY_SPACE, ByteCheck, ConfigByte, Contents, Identity, Intx, PowerOn, check_config_bytes,
+    BODY_SPACE, BadConfigByte, ConfigByte, Contents, Identity, Intx, PowerOn, check_config_bytes,
 };
+use refusal::Refusal;
 
 // A function's contents; pin and line count where there is INTx.
 #[repr(C)]
@@ -35,13 +36,13 @@ pub struct BytesOut {
     pub index: usize,
 }
 
-fn intx_of(has_intx: bool, pin: u8, line: u8) -> Intx
+fn intx_of(has_intx: bool, pin: u8, line: u8) -> Option<Intx>
     ensures { result ≡ intx_of pin line has_intx }
 {
     if has_intx {
-        Intx::Pin { pin, line }
+        Some(Intx { pin, line })
     } else {
-        Intx::Absent
+        None
     }
 }
 
@@ -71,13 +72,18 @@ pub extern "C" fn harness_power_on(contents: ContentsNumbers, bars: Bars, placed
     PowerOn::build(contents_of(contents), states, placed)
 }
 
-fn bytes_out(answer: ByteCheck) -> BytesOut
+fn bytes_out(answer: Result<(), BadConfigByte>) -> BytesOut
     ensures { result ≡ bytes_out answer }
 {
-    let refusal = answer.number();
     match answer {
-        ByteCheck::Good => BytesOut { refusal, index: 0 },
-        ByteCheck::Bad(index) => BytesOut { refusal, index },
+        Ok(()) => BytesOut {
+            refusal: refusal::ACCEPTED,
+            index: 0,
+        },
+        Err(bad) => BytesOut {
+            refusal: Refusal::from(bad).number(),
+            index: bad.0,
+        },
     }
 }
 

@@ -242,7 +242,7 @@ pub extern "C" fn harness_reset(state: FunctionState) -> ResetOut
     let answer = done.answer;
     let after = done.state;
     ResetOut {
-        refusal: answer.number(),
+        refusal: refusal::number(answer),
         state: after,
     }
 }

@@ -3,9 +3,9 @@ use mathlib.Core.Path.{sym}
 use Rattle.config.proofs.Fields.{laid_append, laid_none}
 use Rattle.config.proofs.power_on.put_intx.Goals as goal
 
-pub returns-in-Absent : goal.returns-in-Absent
-returns-in-Absent c = rw c.in-Absent.is (sym (laid_none _))
+pub returns-in-None : goal.returns-in-None
+returns-in-None c = rw c.in-None.is (sym (laid_none _))
 
-pub returns-in-Pin : goal.returns-in-Pin
-returns-in-Pin c =
-    rw (c.in-Pin.is, c.put_byte-in-Pin.ensures, c.put_byte.ensures) (simp laid_append)
+pub returns-in-Some : goal.returns-in-Some
+returns-in-Some c =
+    rw (c.in-Some.is, c.put_byte-in-Some.ensures, c.put_byte.ensures) (simp laid_append)

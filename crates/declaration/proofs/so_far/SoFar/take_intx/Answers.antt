@@ -8,12 +8,12 @@ use Rattle.declaration.proofs.so_far.SoFar.take_intx.Goals as goal
 pub returns-then-self-eq0 : goal.returns-then-self-eq0
 returns-then-self-eq0 c = let a = c.args in c.refused.ensures ∙ sym (intx_early limits a.self a.pin a.line [] c.if-self-eq0.true)
 
-pub returns-then-present : goal.returns-then-present
-returns-then-present c =
+pub returns-then-is_some : goal.returns-then-is_some
+returns-then-is_some c =
     let a = c.args in
-    c.refused-then-present.ensures ∙ sym (intx_repeated limits a.self a.pin a.line [] c.if-self-eq0.false (sym c.is_present-present.ensures ∙ c.if-present.true))
+    c.refused-then-is_some.ensures ∙ sym (intx_repeated limits a.self a.pin a.line [] c.if-self-eq0.false (sym c.is_some.ensures ∙ c.if-is_some.true))
 
 pub returns : goal.returns
 returns c =
     let a = c.args in
-    rw (c.accepted.ensures, c.with_function.ensures) (sym (intx_taken limits a.self a.pin a.line [] c.if-self-eq0.false (sym c.is_present-present.ensures ∙ c.if-present.false)))
+    rw (c.accepted.ensures, c.with_function.ensures) (sym (intx_taken limits a.self a.pin a.line [] c.if-self-eq0.false (sym c.is_some.ensures ∙ c.if-is_some.false)))
