@@ -14,7 +14,7 @@ use Rattle.word.proofs.Searches.{First, any_never, first_is, first_none, found_f
 use Rattle.capability.specs.Mode.{holder_of}
 use Rattle.capability.specs.declared.placed.Placed.{Placed}
 use Rattle.config.specs.ConfigByte.{byte_count, byte_offset, header_byte, byte_ok, byte_bad, bad, byte_check_of}
-use Rattle.std.proofs.Common.{Result, Ok}
+use Rattle.std.proofs.Common.{Ok}
 use Rattle.config.specs.declared.config_byte.BadConfigByte.{BadConfigByte}
 use Rattle.config.specs.declared.function.Contents.{Contents}
 

@@ -1,5 +1,5 @@
 -- Where config bytes may stand: refusal 9 of document 01.
-use Rattle.std.specs.Prelude.{is_none, ℕ, ◌<◌, min, Bool, true, false, not, ◌&&◌, ◌||◌, ◌≡◌, eqb, leb, ltb, length, get_or, Result, Ok, Err}
+use Rattle.std.specs.Prelude.{is_none, ℕ, ◌<◌, min, Bool, not, ◌&&◌, ◌||◌, ◌≡◌, eqb, leb, ltb, length, get_or, Result, Ok, Err}
 use Rattle.address.specs.Kinds.{offset}
 use Rattle.address.specs.Layout.{cache_line_size, latency_timer, interrupt_line, standard_header_end}
 use Rattle.word.specs.Search.{first_of}
