@@ -1,7 +1,6 @@
 use mathlib.Core.Path.{◌≡◌, sym, ◌∙◌, ap}
 use native.Mathlib.Omega.{arith}
-use borrow.Author.Count.{below_more}
-use borrow.Author.Tests.{eq-eqb, ne_eqb}
+use borrow.Author.Tests.{eq-eqb}
 use lib.ListN.{get_or}
 use Rattle.address.specs.Kinds.{index_of}
 use Rattle.address.specs.declared.slot.Slot.{Slot}
@@ -18,10 +17,6 @@ pub returns-then-at-slot : goal.returns-then-at-slot
 returns-then-at-slot c =
     let a = c.args in
     sym (slot_first a.function a.slot c.loop-i.i (omega (arith, c.bars_in-i-end.ensures)) (eq-eqb _ _ (sym (stands (goal.at.returns-then-at-slot c).After-index-at) ∙ c.if-at-slot.true)) c.loop-i.invariant)
-
-pub loop-i-preserved : goal.loop-i-preserved
-loop-i-preserved c =
-    below_more _ _ c.loop-i.invariant (ne_eqb _ _ (λ e. c.if-at-slot.false (stands (goal.at.loop-i-preserved c).After-index-at ∙ e)))
 
 pub returns : goal.returns
 returns c =
