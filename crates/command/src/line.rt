@@ -1,6 +1,6 @@
 // What a line asks.
-ghost use Rattle.std.specs.Prelude.{◌≡◌, true, false, ◌<◌, ◌≤◌};
-ghost use Rattle.command.specs.Command.{word_length, after_letter, no_argument, argument_of, ended_by, read_by, write_by, lookup_by, device_by, alone_by, command_of};
+ghost use Rattle.std.specs.Prelude.{◌≡◌, ◌≤◌};
+ghost use Rattle.command.specs.Command.{word_length, argument_at, ended_by, read_by, write_by, lookup_by, device_by, command_by, command_of};
 
 use crate::numeral::numeral_of;
 
@@ -28,10 +28,9 @@ pub enum Command {
     Unknown,
 }
 
-// An argument: whether it and those before it are numbers, its value, and where the line goes on after it.
+// An argument: its value, and where the line goes on after it.
 #[derive(Clone, Copy)]
 pub struct Argument {
-    pub good: bool,
     pub value: u64,
     pub next: usize,
 }
@@ -41,175 +40,132 @@ fn word_length(line: &[u8], at: usize) -> usize
     ensures { result ≡ word_length line.now at }
 {
     let most = word::past(line.len(), at);
-    let mut n = 0;
-    while n < most {
+    for n in 0..most {
         if line[at + n] == b' ' {
             return n;
         }
-        n += 1;
     }
-    n
+    most
 }
 
-// What stands before the first argument: the line goes on after its letter.
-fn after_letter() -> Argument
-    ensures { result ≡ after_letter }
-{
-    Argument {
-        good: true,
-        value: 0,
-        next: 1,
-    }
-}
+// Where the first argument begins: the line goes on after its letter.
+const AFTER_LETTER: usize = 1;
 
-fn no_argument() -> Argument
-    ensures { result ≡ no_argument }
+// The argument from `at` on: a blank, and a number in a base.
+#[tactic(auto, unfolding(crate::specs::Command::argument_at))]
+fn argument_at(line: &[u8], at: usize, base: u32) -> Option<Argument>
+    requires above_unary { 2 ≤ base }
+    requires hex_at_most { base ≤ 16 }
+    ensures { result ≡ argument_at line.now at base }
 {
-    Argument {
-        good: false,
-        value: 0,
-        next: 0,
-    }
-}
-
-// The argument after another one: a blank, and a number in a base.
-fn next_argument(line: &[u8], last: Argument, base: u64) -> Argument
-    requires { 0 < base }
-    ensures { result ≡ argument_of line.now last base }
-{
-    let good = last.good;
-    if !good {
-        return no_argument();
-    }
-    let at = last.next;
     if word::byte_at(line, at) != b' ' {
-        return no_argument();
+        return None;
     }
     let start = at + 1;
     let length = word_length(line, start);
-    let number = numeral_of(word::part(line, start, length), base);
-    let spelt = number.good;
-    if !spelt {
-        return no_argument();
-    }
-    Argument {
-        good: true,
-        value: number.value,
+    let value = numeral_of(word::part(line, start, length), base)?;
+    Some(Argument {
+        value,
         next: start + length,
-    }
+    })
 }
 
-// Whether the line ends after an argument.
-fn ends(line: &[u8], last: Argument) -> bool
-    ensures { result ≡ ended_by line.now last }
+// A command, where the line ends at `at`.
+fn ended(line: &[u8], at: usize, command: Command) -> Option<Command>
+    ensures { result ≡ ended_by line.now at command }
 {
-    if last.good {
-        return last.next == line.len();
+    if at == line.len() {
+        return Some(command);
     }
-    false
+    None
 }
 
-const HEX: u64 = 16;
+const HEX: u32 = 16;
 
-const DECIMAL: u64 = 10;
+const DECIMAL: u32 = 10;
 
-fn read_command(line: &[u8]) -> Command
+#[tactic(auto, unfolding(crate::specs::Command::read_by))]
+fn read_command(line: &[u8]) -> Option<Command>
     ensures { result ≡ read_by line.now }
 {
-    let device = next_argument(line, after_letter(), HEX);
-    let offset = next_argument(line, device, HEX);
-    let width = next_argument(line, offset, DECIMAL);
-    let ended = ends(line, width);
-    if ended {
-        return Command::Read {
-            device: device.value as usize,
-            offset: offset.value as usize,
-            width: width.value as usize,
-        };
-    }
-    Command::Unknown
+    let device = argument_at(line, AFTER_LETTER, HEX)?;
+    let offset = argument_at(line, device.next, HEX)?;
+    let width = argument_at(line, offset.next, DECIMAL)?;
+    let command = Command::Read {
+        device: device.value as usize,
+        offset: offset.value as usize,
+        width: width.value as usize,
+    };
+    ended(line, width.next, command)
 }
 
-fn write_command(line: &[u8]) -> Command
+#[tactic(auto, unfolding(crate::specs::Command::write_by))]
+fn write_command(line: &[u8]) -> Option<Command>
     ensures { result ≡ write_by line.now }
 {
-    let device = next_argument(line, after_letter(), HEX);
-    let offset = next_argument(line, device, HEX);
-    let width = next_argument(line, offset, DECIMAL);
-    let value = next_argument(line, width, HEX);
-    let ended = ends(line, value);
-    if ended {
-        return Command::Write {
-            device: device.value as usize,
-            offset: offset.value as usize,
-            width: width.value as usize,
-            value: value.value,
-        };
-    }
-    Command::Unknown
+    let device = argument_at(line, AFTER_LETTER, HEX)?;
+    let offset = argument_at(line, device.next, HEX)?;
+    let width = argument_at(line, offset.next, DECIMAL)?;
+    let value = argument_at(line, width.next, HEX)?;
+    let command = Command::Write {
+        device: device.value as usize,
+        offset: offset.value as usize,
+        width: width.value as usize,
+        value: value.value,
+    };
+    ended(line, value.next, command)
 }
 
-fn lookup_command(line: &[u8]) -> Command
+#[tactic(auto, unfolding(crate::specs::Command::lookup_by))]
+fn lookup_command(line: &[u8]) -> Option<Command>
     ensures { result ≡ lookup_by line.now }
 {
-    let address = next_argument(line, after_letter(), HEX);
-    let width = next_argument(line, address, DECIMAL);
-    let ended = ends(line, width);
-    if ended {
-        return Command::Lookup {
-            address: address.value,
-            width: width.value as usize,
-        };
-    }
-    Command::Unknown
+    let address = argument_at(line, AFTER_LETTER, HEX)?;
+    let width = argument_at(line, address.next, DECIMAL)?;
+    let command = Command::Lookup {
+        address: address.value,
+        width: width.value as usize,
+    };
+    ended(line, width.next, command)
 }
 
-fn enumerate_command(line: &[u8]) -> Command
+#[tactic(auto, unfolding(crate::specs::Command::device_by))]
+fn enumerate_command(line: &[u8]) -> Option<Command>
     ensures { result ≡ device_by line.now (λ d. Command.Enumerate d) }
 {
-    let device = next_argument(line, after_letter(), HEX);
-    let ended = ends(line, device);
-    if ended {
-        return Command::Enumerate(device.value as usize);
-    }
-    Command::Unknown
+    let device = argument_at(line, AFTER_LETTER, HEX)?;
+    ended(line, device.next, Command::Enumerate(device.value as usize))
 }
 
-fn revision_command(line: &[u8]) -> Command
+#[tactic(auto, unfolding(crate::specs::Command::device_by))]
+fn revision_command(line: &[u8]) -> Option<Command>
     ensures { result ≡ device_by line.now (λ d. Command.Revision d) }
 {
-    let device = next_argument(line, after_letter(), HEX);
-    let ended = ends(line, device);
-    if ended {
-        return Command::Revision(device.value as usize);
-    }
-    Command::Unknown
+    let device = argument_at(line, AFTER_LETTER, HEX)?;
+    ended(line, device.next, Command::Revision(device.value as usize))
 }
 
-// A command of one letter.
-fn alone(line: &[u8], command: Command) -> Command
-    ensures { result ≡ alone_by line.now command }
+// The command of a letter, if the line goes on as it wants.
+#[tactic(auto, unfolding(crate::specs::Command::command_by))]
+fn command_by(letter: u8, line: &[u8]) -> Option<Command>
+    ensures { result ≡ command_by letter line.now }
 {
-    let ended = ends(line, after_letter());
-    if ended {
-        return command;
-    }
-    Command::Unknown
-}
-
-// What a line asks, by its letter.
-pub fn command_of(line: &[u8]) -> Command
-    ensures { result ≡ command_of line.now }
-{
-    let letter = word::byte_at(line, 0);
     match letter {
         b'r' => read_command(line),
         b'w' => write_command(line),
         b'm' => lookup_command(line),
-        b'z' => alone(line, Command::Reset),
+        b'z' => ended(line, AFTER_LETTER, Command::Reset),
         b'e' => enumerate_command(line),
         b'v' => revision_command(line),
-        b'x' => alone(line, Command::Dump),
-        _ => Command::Unknown,
+        b'x' => ended(line, AFTER_LETTER, Command::Dump),
+        _ => None,
     }
+}
+
+// What a line asks.
+#[tactic(auto, unfolding(crate::specs::Command::command_of))]
+pub fn command_of(line: &[u8]) -> Command
+    ensures { result ≡ command_of line.now }
+{
+    command_by(word::byte_at(line, 0), line).unwrap_or(Command::Unknown)
 }

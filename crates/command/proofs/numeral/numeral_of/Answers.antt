@@ -1,69 +1,69 @@
-use Prim.Native.Nat.{◌-◌, ◌^◌}
-use mathlib.Core.Path.{sym, ◌∙◌}
+use Prim.Native.Nat.{◌+◌, ◌*◌, ◌^◌, ◌<◌}
+use mathlib.Core.Path.{◌≡◌, refl, sym, ap, ◌∙◌}
 use native.Mathlib.Omega.{arith}
-use borrow.Author.Rules.{rules}
-use Rattle.command.proofs.Numerals.{fits_not, fits_there, numeral_none, numeral_start, numeral_end, numeral_bad, numeral_large, numeral_more}
+use borrow.Author.Tests.{eqb-true, eqb-false}
+use lib.ListN.{length, get_or}
+use Rattle.command.specs.Numeral.{digit_of}
+use Rattle.command.proofs.Numerals.{digit_some, digit_nothing, numeral_none, numeral_start, numeral_end, numeral_bad, numeral_large, numeral_more}
 use Rattle.command.proofs.numeral.numeral_of.Goals as goal
+use Rattle.command.proofs.numeral.numeral_of.Goals.{In_ok-digit, In_ok-shifted}
 
-pub returns-then-word-eq0 : goal.returns-then-word-eq0
-returns-then-word-eq0 c = c.no_number.ensures ∙ numeral_none c.args.base c.args.word.now (omega arith)
+pub returns-then-is_empty : goal.returns-then-is_empty
+returns-then-is_empty c = numeral_none c.args.base c.args.word.now (eqb-true _ _ (sym c.is_empty.ensures ∙ c.if-is_empty.true))
 
-pub loop-i-init : goal.loop-i-init
-loop-i-init c = (omega arith, c.requires, numeral_start c.args.base c.args.word.now (omega arith))
+pub loop-byte-init : goal.loop-byte-init
+loop-byte-init c =
+    let some : length c.args.word.now ≡ 0 → ⊥ = eqb-false _ _ (sym c.is_empty.ensures ∙ c.if-is_empty.false) in
+    numeral_start c.args.base c.args.word.now (omega arith)
 
-pub bounds-word-i : goal.bounds-word-i
-bounds-word-i c = omega arith
-
-pub returns-then-base-d : goal.returns-then-base-d
-returns-then-base-d c =
+pub returns-in_err-digit : goal.returns-in_err-digit
+returns-in_err-digit c =
     let a = c.args in
-    let l = c.loop-i in
-    let d = c.digit-d in
-    c.no_number-then-base-d.ensures ∙ sym (numeral_bad a.base a.word.now l.i l.value d.result (omega arith) d.ensures (omega arith)) ∙ l.invariant.2
+    let l = c.loop-byte in
+    let byte : c.from.result ≡ get_or a.word.now l.byte-index 0 = c.from.ensures in
+    let n = digit_nothing a.base c.from.result c.requires.hex_at_most c.to_digit.result c.to_digit.ensures.value c.in_err-digit.was in
+    rw c.from_residual.ensures (sym (numeral_bad a.base a.word.now l.byte-index l.value _ (omega arith) refl (rw byte at n)) ∙ l.invariant)
 
-pub nonzero_div-d : goal.nonzero_div-d
-nonzero_div-d c = omega arith
-
-pub returns-then-d-base : goal.returns-then-d-base
-returns-then-d-base c =
+-- the digit that was read
+read : (c : In_ok-digit) → (c.in_ok-digit.digit ≡ digit_of (get_or c.args.word.now c.loop-byte.byte-index 0)) × (c.in_ok-digit.digit < c.args.base)
+read c =
     let a = c.args in
-    let l = c.loop-i in
-    let d = c.digit-d in
-    let large = fits_not a.base l.value d.result (2 ^ 64 - 1) l.invariant.1 (search rules) c.if-d-base.true in
-    c.no_number-then-d-base.ensures ∙ sym (numeral_large a.base a.word.now l.i l.value d.result (omega arith) d.ensures (omega arith) (omega (arith, large))) ∙ l.invariant.2
+    let byte : c.from.result ≡ get_or a.word.now c.loop-byte.byte-index 0 = c.from.ensures in
+    let d = digit_some a.base c.from.result c.requires.hex_at_most c.to_digit.result c.in_ok-digit.digit c.to_digit.ensures.value c.in_ok-digit.was in
+    (d.0 ∙ ap digit_of byte, d.1)
 
-pub overflow_mul-value : goal.overflow_mul-value
-overflow_mul-value c =
+pub returns-in_err-shifted : goal.returns-in_err-shifted
+returns-in_err-shifted c =
     let a = c.args in
-    let l = c.loop-i in
-    let d = c.digit-d in
-    let fits = fits_there a.base l.value d.result (2 ^ 64 - 1) l.invariant.1 (search rules) (omega arith) in
-    omega (arith, fits)
+    let l = c.loop-byte in
+    let d = read (goal.at.returns-in_err-shifted c).In_ok-digit in
+    let b : c.from-in-loop-byte.result ≡ a.base = c.from-in-loop-byte.ensures in
+    let large : l.value * a.base < 2 ^ 64 → ⊥ = λ h. c.in_err-shifted.ensures (rw b h) in
+    rw c.from_residual-in_err-shifted.ensures (sym (numeral_large a.base a.word.now l.byte-index l.value c.in_ok-digit.digit (omega arith) d.0 d.1 (omega arith)) ∙ l.invariant)
 
-pub overflow_add-value : goal.overflow_add-value
-overflow_add-value c =
+-- the digits before it, moved by one
+moved : (c : In_ok-shifted) → c.in_ok-shifted.shifted ≡ c.loop-byte.value * c.args.base
+moved c =
+    let b : c.from-in-loop-byte.result ≡ c.args.base = c.from-in-loop-byte.ensures in
+    c.in_ok-shifted.ensures.1 ∙ rw b
+
+pub returns-in_err-value : goal.returns-in_err-value
+returns-in_err-value c =
     let a = c.args in
-    let l = c.loop-i in
-    let d = c.digit-d in
-    let fits = fits_there a.base l.value d.result (2 ^ 64 - 1) l.invariant.1 (search rules) (omega arith) in
-    omega (arith, fits)
+    let l = c.loop-byte in
+    let d = read (goal.at.returns-in_err-value c).In_ok-digit in
+    let m = moved (goal.at.returns-in_err-value c).In_ok-shifted in
+    let large = c.in_err-value.ensures in
+    rw c.from_residual-in_err-value.ensures (sym (numeral_large a.base a.word.now l.byte-index l.value c.in_ok-digit.digit (omega arith) d.0 d.1 (omega (arith, c.from-in-loop-byte-2.ensures))) ∙ l.invariant)
 
-pub overflow_add-i : goal.overflow_add-i
-overflow_add-i c = omega arith
-
-pub loop-i-smaller : goal.loop-i-smaller
-loop-i-smaller c = omega arith
-
-pub loop-i-preserved : goal.loop-i-preserved
-loop-i-preserved c =
+pub loop-byte-preserved : goal.loop-byte-preserved
+loop-byte-preserved c =
     let a = c.args in
-    let l = c.loop-i in
-    let d = c.digit-d in
-    let fits = fits_there a.base l.value d.result (2 ^ 64 - 1) l.invariant.1 (search rules) (omega arith) in
-    (omega arith, l.invariant.1, sym (numeral_more a.base a.word.now l.i l.value d.result (omega arith) d.ensures (omega arith) (omega (arith, fits))) ∙ l.invariant.2)
+    let l = c.loop-byte in
+    let d = read (goal.at.loop-byte-preserved c).In_ok-digit in
+    let m = moved (goal.at.loop-byte-preserved c).In_ok-shifted in
+    let v : c.in_ok-value.value ≡ l.value * a.base + c.in_ok-digit.digit = omega (arith, c.in_ok-value.ensures.1, c.from-in-loop-byte-2.ensures) in
+    rw v (sym (numeral_more a.base a.word.now l.byte-index l.value c.in_ok-digit.digit (omega arith) d.0 d.1 (omega (arith, v, c.in_ok-value.ensures))) ∙ l.invariant)
 
 pub returns : goal.returns
-returns c =
-    let a = c.args in
-    let l = c.loop-i in
-    sym (numeral_end a.base a.word.now l.i l.value (omega arith)) ∙ l.invariant.2
+returns c = sym (numeral_end c.args.base c.args.word.now c.loop-byte.byte-index c.loop-byte.value (omega arith)) ∙ c.loop-byte.invariant
