@@ -3,8 +3,9 @@ use Prim.Native.Nat.{ℕ, ◌-◌, ◌%◌, ◌^◌, ◌<◌}
 use mathlib.Core.Bool.{true, false}
 use mathlib.Core.Logic.{⊎_elim}
 use mathlib.Core.Path.{◌≡◌, ap, ◌∙◌}
-use native.Mathlib.Nat.{mod-lt, sub-zero}
+use native.Mathlib.Nat.{mod-lt, sub-zero, div-one}
 use native.Mathlib.Omega.{arith}
+use Rattle.std.specs.Int.{w32, to_le_bytes}
 use lib.ListN.{get_or, replicate, get_or-replicate}
 use Rattle.word.specs.Table.{table}
 use Rattle.word.specs.Interval.{covers}
@@ -57,3 +58,8 @@ pub stored_merge : (dword lane width value : ℕ) → number (stored (replicate 
 unfolding merge stored bytes_of
 stored_merge dword lane width value = rw (length_table 4 (byte_of dword)) (ap number (table_ext 4 (stored_byte (replicate 4 255) (table 4 (byte_of dword)) lane width value) (merged_byte dword lane width value) (λ k h.
     rw (get_or_table 4 (byte_of dword) k 0 h, get_or-replicate {A = ℕ} 4 k 255 0 h, blend_all (byte_of dword k) (byte_of value (k - lane)) (mod-lt _ (omega arith))))))
+
+-- std's word for the four bytes of a dword
+pub le_four : (dword : ℕ) → to_le_bytes w32 dword ≡ bytes_of 4 dword
+unfolding bytes_of table
+le_four dword = rw (div-one dword)

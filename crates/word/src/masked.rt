@@ -9,16 +9,10 @@ use crate::bounds::{at_most, past};
 fn byte_of(value: u64, k: usize) -> u8
     ensures { result ≡ byte_of value k }
 {
-    let mut rest = value;
-    let mut i = 0;
-    while i < k {
-        if rest == 0 {
-            return 0;
-        }
-        rest = rest / 256;
-        i += 1;
+    match value.to_le_bytes().get(k) {
+        Some(byte) => *byte,
+        None => 0,
     }
-    (rest % 256) as u8
 }
 
 // The bits of value where mask is 1, those of old elsewhere.
@@ -67,12 +61,10 @@ pub fn store(live: &mut [u8], mask: &[u8], offset: usize, width: usize, value: u
 {
     let many = reach(mask.len(), offset, reach(live.len(), offset, width));
     let mut rest = value;
-    let mut i = 0;
-    while i < many {
+    for i in 0..many {
         let at = offset + i;
         let b = blended(mask[at], live[at], (rest % 256) as u8);
         live[at] = b;
         rest = rest / 256;
-        i += 1;
     }
 }

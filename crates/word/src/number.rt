@@ -5,12 +5,6 @@ ghost use Rattle.word.specs.Number.{number, part_of, read_at, bytes_of, merge};
 use crate::bounds::at_most;
 use crate::masked::store;
 
-fn wide(x: u8) -> u64
-    ensures { result ≡ x }
-{
-    x as u64
-}
-
 // The byte at an index; 0 past the end.
 pub fn byte_at(bytes: &[u8], i: usize) -> u8
     ensures { result ≡ get_or bytes.now i 0 }
@@ -26,11 +20,9 @@ fn spelt(bytes: &[u8]) -> u64
     requires { length bytes.now ≤ 8 }
     ensures { result ≡ number bytes.now }
 {
-    let mut n: u64 = 0;
-    let mut i = bytes.len();
-    while 0 < i {
-        i -= 1;
-        n = n * 256 + wide(bytes[i]);
+    let mut n = 0;
+    for i in (0..bytes.len()).rev() {
+        n = n * 256 + u64::from(bytes[i]);
     }
     n
 }
@@ -51,33 +43,24 @@ fn read_part(bytes: &[u8], offset: usize, width: usize) -> u64
     spelt(part(bytes, offset, at_most(width, 8)))
 }
 
-// A byte that is there.
-fn byte_there(bytes: &[u8], i: usize) -> u64
-    requires { i < length bytes.now }
-    ensures { (result ≡ get_or bytes.now i 0) × (result < 256) }
-{
-    wide(bytes[i])
-}
-
 // Two bytes, and four, that are there: no loop, so that a config access is one load.
 fn word_there(bytes: &[u8], offset: usize) -> u64
     requires { offset + 2 ≤ length bytes.now }
     ensures { result ≡ read_at bytes.now offset 2 }
 {
-    let a = byte_there(bytes, offset);
-    let b = byte_there(bytes, offset + 1);
-    a + 0x100 * b
+    u64::from(u16::from_le_bytes([bytes[offset], bytes[offset + 1]]))
 }
 
 fn dword_there(bytes: &[u8], offset: usize) -> u64
     requires { offset + 4 ≤ length bytes.now }
     ensures { result ≡ read_at bytes.now offset 4 }
 {
-    let a = byte_there(bytes, offset);
-    let b = byte_there(bytes, offset + 1);
-    let c = byte_there(bytes, offset + 2);
-    let d = byte_there(bytes, offset + 3);
-    a + 0x100 * b + 0x1_0000 * c + 0x100_0000 * d
+    u64::from(u32::from_le_bytes([
+        bytes[offset],
+        bytes[offset + 1],
+        bytes[offset + 2],
+        bytes[offset + 3],
+    ]))
 }
 
 // Bytes that are there, by their width.
@@ -106,23 +89,11 @@ pub fn read(bytes: &[u8], offset: usize, width: usize) -> u64
     read_part(bytes, offset, width)
 }
 
-// The four bytes of a dword.
-fn bytes_of(dword: u32) -> [u8; 4]
-    ensures { result ≡ bytes_of 4 dword }
-{
-    [
-        (dword % 256) as u8,
-        (dword / 0x100 % 256) as u8,
-        (dword / 0x1_0000 % 256) as u8,
-        (dword / 0x100_0000 % 256) as u8,
-    ]
-}
-
 // `width` bytes of a value in place of those of the dword from `lane` on.
 pub fn merged(dword: u32, lane: usize, width: usize, value: u64) -> u32
     ensures { result ≡ merge dword lane width value }
 {
-    let mut bytes = bytes_of(dword);
+    let mut bytes = dword.to_le_bytes();
     let all = [255u8; 4];
     store(&mut bytes, &all, lane, width, value);
     spelt(&bytes) as u32

@@ -10,12 +10,9 @@ pub fn put(bytes: &mut [u8], offset: usize, width: usize, value: u64)
 {
     let many = reach(bytes.len(), offset, width);
     let mut rest = value;
-    let mut i = 0;
-    while i < many {
-        let at = offset + i;
-        bytes[at] = (rest % 256) as u8;
+    for i in 0..many {
+        bytes[offset + i] = (rest % 256) as u8;
         rest = rest / 256;
-        i += 1;
     }
 }
 
@@ -24,10 +21,7 @@ pub fn lay(bytes: &mut [u8], offset: usize, part: &[u8])
     ensures { bytes.new ≡ laid_over bytes.old offset (length part.now) part.now }
 {
     let many = reach(bytes.len(), offset, part.len());
-    let mut i = 0;
-    while i < many {
-        let at = offset + i;
-        bytes[at] = part[i];
-        i += 1;
+    for i in 0..many {
+        bytes[offset + i] = part[i];
     }
 }

@@ -10,30 +10,21 @@ pub loop-i-init : goal.loop-i-init
 unfolding number
 loop-i-init c = (omega arith, let e = drop-length c.args.bytes.now in rw e)
 
-pub overflow_sub-i : goal.overflow_sub-i
-overflow_sub-i c = omega arith
-
 pub overflow_mul-n : goal.overflow_mul-n
 overflow_mul-n c =
     let l = c.loop-i in
-    omega (arith, l.invariant.1, number_drop_lt c.args.bytes.now l.i (λ k. (c.shared_slice_known-1.given k).fits) c.requires (omega arith))
-
-pub bounds-bytes-i : goal.bounds-bytes-i
-bounds-bytes-i c = omega arith
+    omega (arith, l.invariant.1, number_drop_lt c.args.bytes.now l.i (λ k. (c.type_inv.bytes k).fits) c.requires (omega arith))
 
 pub overflow_add-n : goal.overflow_add-n
 overflow_add-n c =
     let l = c.loop-i in
-    omega (arith, l.invariant.1, c.wide.ensures, c.shared_slice_known-in-loop-i-1.given (l.i - 1), number_drop_lt c.args.bytes.now l.i (λ k. (c.shared_slice_known-1.given k).fits) c.requires (omega arith))
-
-pub loop-i-smaller : goal.loop-i-smaller
-loop-i-smaller c = omega arith
+    omega (arith, l.invariant.1, c.from.ensures, c.type_inv.bytes (l.i - 1), number_drop_lt c.args.bytes.now l.i (λ k. (c.type_inv.bytes k).fits) c.requires (omega arith))
 
 pub loop-i-preserved : goal.loop-i-preserved
 loop-i-preserved c =
     let l = c.loop-i in
     let b = c.args.bytes.now in
-    (omega arith, rw (c.wide.ensures, l.invariant.1) (sym (number_more b (l.i - 1) l.i (omega arith) (omega arith))))
+    (omega arith, rw (c.from.ensures, l.invariant.1) (sym (number_more b (l.i - 1) l.i (omega arith) (omega arith))))
 
 pub returns : goal.returns
 returns c = let e : c.loop-i.i ≡ 0 = omega arith in c.loop-i.invariant.1 ∙ rw e

@@ -7,6 +7,3 @@ use Rattle.word.proofs.number.spelt.Given as goal
 
 abbrev pub invariant-loop-i : goal.invariant-loop-i
 invariant-loop-i l = (l.i ≤ length l.bytes) × (l.n ≡ number (drop l.i l.bytes))
-
-abbrev pub decreases-loop-i : goal.decreases-loop-i
-decreases-loop-i l = l.i

@@ -1,7 +1,6 @@
--- `word_there` adds up two bytes, each at its place.
-use mathlib.Core.Path.{sym}
+use native.Mathlib.Omega.{arith}
 use Rattle.word.proofs.ReadSums.{read_two}
 use Rattle.word.proofs.number.word_there.Goals as goal
 
 pub returns : goal.returns
-returns c = rw (c.byte_there-b.ensures.0, c.byte_there-a.ensures.0) (sym (read_two _ _))
+returns c = omega (arith, c.from.ensures, c.from_le_bytes.ensures, read_two c.args.bytes.now c.args.offset)

@@ -2,44 +2,27 @@ use mathlib.Core.Path.{◌≡◌, refl, sym, ◌∙◌}
 use native.Mathlib.Nat.{div-one, div-div-eq-div-mul, pow-suc}
 use native.Mathlib.Numerals.{add-one}
 use native.Mathlib.Omega.{arith}
-use borrow.Author.Count.{falls}
 use lib.ListN.{length-set}
 use Rattle.word.proofs.Puts.{put_none, put_more, put_reach}
 use Rattle.word.proofs.plain.put.Goals as goal
 
 pub loop-i-init : goal.loop-i-init
-loop-i-init c = (omega arith, c.reach-many.ensures, sym (div-one _), sym (put_none _ _ _), refl)
-
-pub overflow_add-at : goal.overflow_add-at
-overflow_add-at c = omega arith
-
-pub overflow_cast-bytes : goal.overflow_cast-bytes
-overflow_cast-bytes c = omega arith
-
-pub bounds-bytes-at : goal.bounds-bytes-at
-bounds-bytes-at c = omega arith
-
-pub overflow_add-i : goal.overflow_add-i
-overflow_add-i c = omega arith
-
-pub loop-i-smaller : goal.loop-i-smaller
-loop-i-smaller c = falls _ _ c.loop-i-test.true
+loop-i-init c = (c.reach-many.ensures, sym (div-one _), sym (put_none _ _ _), refl)
 
 pub loop-i-preserved : goal.loop-i-preserved
 loop-i-preserved c = let a = c.args in
     let l = c.loop-i in (
-      omega arith,
-      l.invariant.1,
-      rw (l.invariant.2, add-one, pow-suc, div-div-eq-div-mul),
-      rw l.invariant.3 (put_more a.bytes.now a.offset l.i a.value _ (omega arith) (rw l.invariant.2)),
-      simp length-set l.invariant.4,
+      l.invariant.0,
+      rw (l.invariant.1, add-one, pow-suc, div-div-eq-div-mul),
+      rw l.invariant.2 (put_more a.bytes.now a.offset l.i a.value _ (omega arith) (rw l.invariant.1)),
+      simp length-set l.invariant.3,
     )
 
 pub shape_of-bytes : goal.shape_of-bytes
-shape_of-bytes c = c.loop-i.invariant.4
+shape_of-bytes c = c.loop-i.invariant.3
 
 pub returns : goal.returns
 returns c = let a = c.args in
     let l = c.loop-i in
     let e : l.i ≡ c.reach-many.result = omega arith in
-    l.invariant.3 ∙ put_reach a.bytes.now a.offset a.width l.i a.value (e ∙ l.invariant.1)
+    l.invariant.2 ∙ put_reach a.bytes.now a.offset a.width l.i a.value (e ∙ l.invariant.0)
