@@ -9,7 +9,7 @@ use Rattle.bar.specs.Bar.{no_bar}
 use Rattle.bar.specs.State.{fresh}
 use Rattle.bar.specs.declared.bar_state.Plan.{Plan}
 use Rattle.bar.specs.declared.bar_state.BarState.{BarState}
-use Rattle.capability.specs.Layout.{layout_of}
+use Rattle.capability.specs.Layout.{layout_of, placed_or_nothing}
 use Rattle.capability.specs.declared.placed.Placed.{Placed}
 use Rattle.config.specs.PowerOn.{power_on_of}
 use Rattle.config.specs.Start.{power_on_state}
@@ -47,7 +47,7 @@ unfoldable pub bars_placed : Function → List ℕ → ℕ → List BarState
 bars_placed f addresses k = table bar_count (λ i. fresh (plan_at f addresses k i))
 
 abbrev pub placed_in : Function → Placed
-placed_in f = (layout_of config_space_size f.capabilities).placed
+placed_in f = placed_or_nothing (layout_of config_space_size f.capabilities)
 
 unfoldable pub function_start : Function → List ℕ → ℕ → FunctionState
 function_start f addresses k =

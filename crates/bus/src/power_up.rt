@@ -10,7 +10,7 @@ use address::Slot;
 use address::config_layout::CONFIG_SPACE_SIZE;
 use address::limits::{BAR_SLOTS, FUNCTION_LIMIT};
 use bar::{BarState, Plan};
-use capability::layout_capabilities;
+use capability::{Placed, layout_capabilities};
 use config::{Function, FunctionState, PowerOn};
 use declaration::{Declaration, DeclarationAnswer, Place, read_declaration};
 use placement::{DeclaredBars, FunctionBars, KEY_COUNT, resolve_bar_addresses};
@@ -76,8 +76,7 @@ fn function_start(function: Function, addresses: [u64; KEY_COUNT], k: usize) -> 
 {
     let bars = bars_placed(function, addresses, k);
     let capabilities = function.capabilities;
-    let laid = layout_capabilities(CONFIG_SPACE_SIZE, capabilities);
-    let placed = laid.placed;
+    let placed = layout_capabilities(CONFIG_SPACE_SIZE, capabilities).unwrap_or(Placed::none());
     let contents = function.contents;
     let power_on = PowerOn::build(contents, bars, placed);
     FunctionState::new(power_on, bars, placed)

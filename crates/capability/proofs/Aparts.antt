@@ -3,13 +3,14 @@ use Prim.Native.Nat.{ℕ, ◌+◌, ◌-◌, ◌<◌, ◌≤◌}
 use mathlib.Core.Bool.{true}
 use mathlib.Core.Path.{◌≡◌, ap}
 use native.Mathlib.Omega.{arith}
+use Rattle.std.proofs.Common.{Ok}
 use Rattle.word.proofs.Intervals.{Within, covers_in, covers_within}
 use Rattle.address.specs.Layout.{standard_header_end}
 use Rattle.capability.specs.Size.{header_size}
 use Rattle.capability.specs.Declaration.{count_of, effect_count_of, length_at, declared_effect}
 use Rattle.capability.specs.Offset.{offset_at}
 use Rattle.capability.specs.Blank.{nothing_placed}
-use Rattle.capability.specs.Layout.{placed_of, answer_of, layout_of}
+use Rattle.capability.specs.Layout.{placed_of, answer_of, layout_of, placed_or_nothing}
 use Rattle.capability.specs.Sound.{Fitting, Sound}
 use Rattle.capability.specs.Owner.{capability_count, effect_count, effect_at, region_start, in_region}
 use Rattle.capability.specs.Mode.{in_capability}
@@ -17,12 +18,11 @@ use Rattle.capability.specs.Laid.{Laid}
 use Rattle.capability.specs.LaidApart.{LaidApart}
 use Rattle.capability.specs.declared.declared.Capabilities.{Capabilities}
 use Rattle.capability.specs.declared.placed.Placed.{Placed}
-use Rattle.capability.specs.declared.layout.LayoutAnswer.TheVariants as layout_answer
 use Rattle.capability.proofs.Shown.{nothing_count, no_capabilities, no_effects, layout_either}
 use Rattle.capability.proofs.Extents.{extent_in}
 use Rattle.capability.proofs.Laids.{placed_many, placed_many_effects, placed_effect_at, placed_start_lem, placed_length, placed_laid, neither_below, one_capability}
 
-module _ (space : ℕ) (d : Capabilities) (s : Sound d) (accepted : answer_of space d ≡ layout_answer.Placed) where
+module _ (space : ℕ) (d : Capabilities) (s : Sound d) (accepted : answer_of space d ≡ Ok tt) where
   -- where the capability of effect i starts, by the declaration
   abbrev owner_start : ℕ → ℕ
   owner_start i = offset_at (length_at d) (declared_effect d i).capability
@@ -84,7 +84,7 @@ none_apart p h l =
       separate = λ c e j m. absurd (omega (arith, no_capabilities p h));
     }
 
-pub layout_apart : (space : ℕ) (d : Capabilities) → Sound d → LaidApart (layout_of space d).placed
+pub layout_apart : (space : ℕ) (d : Capabilities) → Sound d → LaidApart (placed_or_nothing (layout_of space d))
 layout_apart space d s = layout_either space d LaidApart (placed_apart space d s) (none_apart nothing_placed nothing_count.0 nothing_count.1)
 
 -- a region lies in the space, past the first capability's header

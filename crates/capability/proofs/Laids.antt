@@ -5,20 +5,20 @@ use mathlib.Core.Logic.{⊎_elim}
 use mathlib.Core.Path.{◌≡◌, sym, ap, ◌∙◌}
 use native.Mathlib.Omega.{arith}
 use lib.Seq.{length-take-le, get_or-take}
+use Rattle.std.proofs.Common.{Ok}
 use Rattle.word.proofs.Tests.{below_or_not}
 use Rattle.word.proofs.Tables.{filled_length}
 use Rattle.address.specs.Limits.{capability_room, effect_room}
 use Rattle.capability.specs.Declaration.{count_of, effect_count_of, length_at, declared_effect}
 use Rattle.capability.specs.Offset.{next_multiple, offset_at, end_at}
 use Rattle.capability.specs.Blank.{no_placed_capability, no_placed_effect, nothing_placed}
-use Rattle.capability.specs.Layout.{placed_capability, placed_effect, placed_of, answer_of, layout_of}
+use Rattle.capability.specs.Layout.{placed_capability, placed_effect, placed_of, answer_of, layout_of, placed_or_nothing}
 use Rattle.capability.specs.Owner.{capability_count, effect_count, capability_at, effect_at, start_of}
 use Rattle.capability.specs.Mode.{in_capability}
 use Rattle.capability.specs.Laid.{finish_of, Laid}
 use Rattle.capability.specs.declared.declared.Capabilities.{Capabilities}
 use Rattle.capability.specs.declared.placed.PlacedCapability.{PlacedCapability}
 use Rattle.capability.specs.declared.placed.Placed.{Placed}
-use Rattle.capability.specs.declared.layout.LayoutAnswer.TheVariants as layout_answer
 use Rattle.capability.proofs.Offsets.{offset_first, offset_next, offset_multiple, offset_from, end_before}
 use Rattle.capability.proofs.Rulings.{placed_fine}
 use Rattle.capability.proofs.Shown.{placed_capability_lem, placed_effect_lem, nothing_count, no_capabilities, no_effects, layout_either}
@@ -50,7 +50,7 @@ module _ (d : Capabilities) where
   placed_finish i h = omega (arith, placed_start_lem i h, placed_length i h)
 
   -- an accepted layout
-  pub placed_laid : (space : ℕ) → answer_of space d ≡ layout_answer.Placed → Laid space (placed_of d)
+  pub placed_laid : (space : ℕ) → answer_of space d ≡ Ok tt → Laid space (placed_of d)
   placed_laid space e =
       record {
         counted = placed_many;
@@ -81,7 +81,7 @@ none_laid space p h l =
       ascends = λ i k n m. absurd (omega arith);
     }
 
-pub layout_laid : (space : ℕ) (d : Capabilities) → Laid space (layout_of space d).placed
+pub layout_laid : (space : ℕ) (d : Capabilities) → Laid space (placed_or_nothing (layout_of space d))
 layout_laid space d = layout_either space d (Laid space) (placed_laid d space) (none_laid space nothing_placed nothing_count.0 nothing_count.1)
 
 -- numbers of which neither is below the other are one

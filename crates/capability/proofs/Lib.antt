@@ -25,4 +25,3 @@ pub mod Views
 pub mod RustWalks
 pub mod RustModes
 pub mod Untouched
-mod ViewWalks

@@ -5,18 +5,18 @@ use mathlib.Core.Logic.{⊎_elim}
 use mathlib.Core.Path.{◌≡◌, refl, ◌∙◌}
 use native.Mathlib.Omega.{arith}
 use borrow.Author.Tests.{lt-ltb, le-ltb, ltb-true, ltb-false}
+use Rattle.std.proofs.Common.{Result, Ok, Err}
 use Rattle.word.specs.Search.{first_below}
 use Rattle.word.proofs.Tests.{below_or_not, true_or_false, both}
 use Rattle.word.proofs.Searches.{least_is, least_at, least_none}
 use Rattle.capability.specs.Declaration.{count_of, length_at}
 use Rattle.capability.specs.Offset.{end_at}
 use Rattle.capability.specs.Repeat.{repeats_at}
-use Rattle.capability.specs.Layout.{fault_at, refusal_at, answer_of}
+use Rattle.capability.specs.Layout.{fault_at, refusal_at, answer_of, repeated_at, past_at}
 use Rattle.capability.specs.Arranged.{Fit}
 use Rattle.capability.specs.Ruling.{Distinct, Ruling, placed, repeated, past}
 use Rattle.capability.specs.declared.declared.Capabilities.{Capabilities}
-use Rattle.capability.specs.declared.layout.LayoutAnswer.{LayoutAnswer}
-use Rattle.capability.specs.declared.layout.LayoutAnswer.TheVariants as layout_answer
+use Rattle.capability.specs.declared.layout.LayoutRefusal.{LayoutRefusal}
 use Rattle.capability.proofs.Offsets.{inside_fit, fit_inside}
 
 -- capability k has no fault: no repeated id, and it ends in the space
@@ -49,19 +49,19 @@ module _ (space : ℕ) (d : Capabilities) where
   all_fine n s f j h = record { distinct = s j h; inside = fit_inside (length_at d) space n f j h }
 
   -- what the first fault answers
-  first_fault_lem : (k : ℕ) → k < count_of d → AllFine k → fault_at space d k ≡ true → answer_of space d ≡ refusal_at d k
+  first_fault_lem : (k : ℕ) → k < count_of d → AllFine k → fault_at space d k ≡ true → answer_of space d ≡ Err (refusal_at d k)
   unfolding answer_of
   first_fault_lem k h b e = rw (least_at (fault_at space d) (count_of d) k h e (λ j l. fine_none j (b j l)), lt-ltb k (count_of d) h)
 
   -- the three answers, in the terms of the check
-  pub rule_placed : AllFine (count_of d) → answer_of space d ≡ layout_answer.Placed
+  pub rule_placed : AllFine (count_of d) → answer_of space d ≡ Ok tt
   unfolding answer_of
   rule_placed b = rw (least_none (fault_at space d) (count_of d) (λ j l. fine_none j (b j l)), le-ltb (count_of d) (count_of d) (omega arith))
 
-  pub rule_repeated : (k : ℕ) → k < count_of d → AllFine k → repeats_at d k ≡ true → answer_of space d ≡ layout_answer.Repeated k
+  pub rule_repeated : (k : ℕ) → k < count_of d → AllFine k → repeats_at d k ≡ true → answer_of space d ≡ Err (repeated_at k)
   rule_repeated k h b e = first_fault_lem k h b (rw e) ∙ rw e
 
-  pub rule_past : (k : ℕ) → k < count_of d → AllFine k → repeats_at d k ≡ false → space < end_at (length_at d) k → answer_of space d ≡ layout_answer.PastEnd k
+  pub rule_past : (k : ℕ) → k < count_of d → AllFine k → repeats_at d k ≡ false → space < end_at (length_at d) k → answer_of space d ≡ Err (past_at k)
   rule_past k h b e l = first_fault_lem k h b (rw (e, lt-ltb space (end_at (length_at d) k) l)) ∙ rw e
 
   -- a capability that has no layout with those before it ends after the space, and the other way
@@ -79,7 +79,7 @@ module _ (space : ℕ) (d : Capabilities) where
   distinct_more k s e j h = ⊎_elim (λ (l : j < k). s j l) (λ (l : k ≤ j). let q : j ≡ k = omega arith in rw q e) (below_or_not j k)
 
   -- an answer is given where its ruling holds
-  pub ruling_is : (a : LayoutAnswer) → Ruling space d a → answer_of space d ≡ a
+  pub ruling_is : (a : Result (Unit {0}) LayoutRefusal) → Ruling space d a → answer_of space d ≡ a
   ruling_is a (placed s f) = rule_placed (all_fine (count_of d) s f)
   ruling_is a (repeated k h s f e) = rule_repeated k h (all_fine k s f) e
   ruling_is a (past k h s f n) =
@@ -104,18 +104,18 @@ module _ (space : ℕ) (d : Capabilities) where
       (below_or_not k (count_of d))
 
   -- so each answer says what it says
-  of_placed : Ruling space d layout_answer.Placed → AllFine (count_of d)
+  of_placed : Ruling space d (Ok tt) → AllFine (count_of d)
   of_placed (placed s f) = all_fine (count_of d) s f
 
-  pub placed_fine : answer_of space d ≡ layout_answer.Placed → AllFine (count_of d)
+  pub placed_fine : answer_of space d ≡ Ok tt → AllFine (count_of d)
   placed_fine e = of_placed (rw e at ruling)
 
-  pub repeated_is : (k : ℕ) → answer_of space d ≡ layout_answer.Repeated k → Ruling space d (layout_answer.Repeated k)
+  pub repeated_is : (k : ℕ) → answer_of space d ≡ Err (repeated_at k) → Ruling space d (Err (repeated_at k))
   repeated_is k e = rw e at ruling
 
-  pub past_is : (k : ℕ) → answer_of space d ≡ layout_answer.PastEnd k → Ruling space d (layout_answer.PastEnd k)
+  pub past_is : (k : ℕ) → answer_of space d ≡ Err (past_at k) → Ruling space d (Err (past_at k))
   past_is k e = rw e at ruling
 
   -- 12 before 13: where both hold at the first capability at fault, the id decides
-  pub repeated_first : (k : ℕ) → k < count_of d → AllFine k → repeats_at d k ≡ true → space < end_at (length_at d) k → answer_of space d ≡ layout_answer.Repeated k
+  pub repeated_first : (k : ℕ) → k < count_of d → AllFine k → repeats_at d k ≡ true → space < end_at (length_at d) k → answer_of space d ≡ Err (repeated_at k)
   repeated_first k h b r l = rule_repeated k h b r

@@ -3,45 +3,37 @@ use Prim.Native.Nat.{ℕ, ◌<◌, ◌≤◌}
 use mathlib.Core.Path.{◌≡◌, refl, ap}
 use native.Mathlib.Omega.{arith}
 use lib.ListN.{get_or, length-take}
+use Rattle.std.proofs.Common.{Result, Ok, Err}
 use Rattle.word.proofs.Tables.{get_or_table, filled_at, filled_past}
 use Rattle.address.specs.Limits.{capability_room, effect_room}
 use Rattle.capability.specs.Declaration.{count_of, effect_count_of, declared_effect}
 use Rattle.capability.specs.Blank.{no_placed_capability, no_placed_effect, nothing_placed}
-use Rattle.capability.specs.Layout.{placed_capability, placed_effect, placed_of, placed_for, answer_of, layout_of}
+use Rattle.capability.specs.Layout.{placed_capability, placed_effect, placed_of, placed_for, answer_of, layout_of, repeated_at, past_at, placed_or_nothing}
 use Rattle.capability.specs.Owner.{capability_count, effect_count}
 use Rattle.capability.specs.declared.declared.Capabilities.{Capabilities}
+use Rattle.capability.specs.declared.layout.LayoutRefusal.{LayoutRefusal}
 use Rattle.capability.specs.declared.placed.PlacedCapability.{PlacedCapability}
 use Rattle.capability.specs.declared.placed.PlacedEffect.{PlacedEffect}
 use Rattle.capability.specs.declared.placed.Placed.{Placed}
-use Rattle.capability.specs.declared.layout.LayoutAnswer.{LayoutAnswer}
-use Rattle.capability.specs.declared.layout.LayoutAnswer.TheVariants as layout_answer
 
 module _ (space : ℕ) (d : Capabilities) where
-  pub layout_answer_lem : (layout_of space d).answer ≡ answer_of space d
-  unfolding layout_of
-  layout_answer_lem = refl
-
-  shown_by : (a : LayoutAnswer) → answer_of space d ≡ a → (layout_of space d).placed ≡ placed_for d a
+  shown_by : (a : Result (Unit {0}) LayoutRefusal) → answer_of space d ≡ a → layout_of space d ≡ placed_for d a
   unfolding layout_of
   shown_by a e = ap (placed_for d) e
 
-  -- everything where it is accepted, nothing where it is not
-  pub layout_placed : answer_of space d ≡ layout_answer.Placed → (layout_of space d).placed ≡ placed_of d
-  layout_placed e = shown_by layout_answer.Placed e
+  -- everything where it is accepted, the same refusal where it is not
+  pub layout_placed : answer_of space d ≡ Ok tt → layout_of space d ≡ Ok (placed_of d)
+  layout_placed e = shown_by (Ok tt) e
 
-  pub layout_repeated : (k : ℕ) → answer_of space d ≡ layout_answer.Repeated k → (layout_of space d).placed ≡ nothing_placed
-  layout_repeated k e = shown_by (layout_answer.Repeated k) e
+  pub layout_refused : (r : LayoutRefusal) → answer_of space d ≡ Err r → layout_of space d ≡ Err r
+  layout_refused r e = shown_by (Err r) e
 
-  pub layout_past : (k : ℕ) → answer_of space d ≡ layout_answer.PastEnd k → (layout_of space d).placed ≡ nothing_placed
-  layout_past k e = shown_by (layout_answer.PastEnd k) e
-
-  either : (P : Placed → Type 0) → (answer_of space d ≡ layout_answer.Placed → P (placed_of d)) → P nothing_placed → (a : LayoutAnswer) → answer_of space d ≡ a → P (layout_of space d).placed
-  either P h n layout_answer.Placed e = rw (layout_placed e) (h e)
-  either P h n (layout_answer.Repeated k) e = rw (layout_repeated k e) n
-  either P h n (layout_answer.PastEnd k) e = rw (layout_past k e) n
+  either : (P : Placed → Type 0) → (answer_of space d ≡ Ok tt → P (placed_of d)) → P nothing_placed → (a : Result (Unit {0}) LayoutRefusal) → answer_of space d ≡ a → P (placed_or_nothing (layout_of space d))
+  either P h n (Ok u) e = rw (layout_placed e) (h e)
+  either P h n (Err r) e = rw (layout_refused r e) n
 
   -- so what holds of everything at its place, where it is accepted, and of nothing at all, holds of what any answer comes with
-  pub layout_either : (P : Placed → Type 0) → (answer_of space d ≡ layout_answer.Placed → P (placed_of d)) → P nothing_placed → P (layout_of space d).placed
+  pub layout_either : (P : Placed → Type 0) → (answer_of space d ≡ Ok tt → P (placed_of d)) → P nothing_placed → P (placed_or_nothing (layout_of space d))
   layout_either P h n = either P h n (answer_of space d) refl
 
 -- capability k and effect j of what is placed, and the blanks after them

@@ -7,6 +7,7 @@ use mathlib.Core.Path.{◌≡◌, refl, ap, ◌∙◌}
 use native.Mathlib.Omega.{arith}
 use lib.ListN.{length-set}
 use lib.Seq.{get_or-set_same, get_or-set_other}
+use Rattle.std.specs.Result.{result_unwrap_or}
 use Rattle.word.proofs.Tests.{below_or_not, true_or_false, both}
 use Rattle.word.proofs.Tables.{length_table}
 use Rattle.address.specs.Limits.{Limits, capability_room, effect_room}
@@ -47,8 +48,8 @@ with_capability_sound d c s l =
       alone = s.alone;
     }
 
--- whatever the limits are, as long as there is room for them
-pub add_capability_sound : (l : Limits) → l.capabilities ≤ capability_room → (d : Capabilities) (c : Capability) → Sound d → Sound (add_capability_of l d c).state
+-- whatever the limits are, as long as there is room for them; a refusal leaves all as it was
+pub add_capability_sound : (l : Limits) → l.capabilities ≤ capability_room → (d : Capabilities) (c : Capability) → Sound d → Sound (result_unwrap_or (add_capability_of l d c) d)
 add_capability_sound l fit d c s =
     ⊎_elim (λ (h : d.count < l.capabilities). rw (add_good l d c h) (with_capability_sound d c s (omega arith)))
     (λ (h : l.capabilities ≤ d.count). rw (add_full l d c h) s)
@@ -96,7 +97,7 @@ module _ (mask : List ℕ) (d : Capabilities) (id o w : ℕ) (a : EffectAccess) 
   faultless_alone clean i b h q e f = clean (overlapping (record { index = i; below = omega (arith, s.few_effects); there = q; byte = b; mine = f; its = e }))
 
   -- with a capability and room, refusal 11 decides
-  decided_sound : (l : Limits) → l.effects ≤ effect_room → 0 < d.count → d.effect_count < l.effects → Sound (add_effect_of l mask d id o w a).state
+  decided_sound : (l : Limits) → l.effects ≤ effect_room → 0 < d.count → d.effect_count < l.effects → Sound (result_unwrap_or (add_effect_of l mask d id o w a) d)
   decided_sound l fit h m =
       ⊎_elim (λ (e : effect_bad mask d o w ≡ true). rw (effect_bad_lem l mask d id o w a (λ q. omega arith) m (bad_fault mask d o w e)) s)
       (λ (e : effect_bad mask d o w ≡ false).
@@ -104,7 +105,7 @@ module _ (mask : List ℕ) (d : Capabilities) (id o w : ℕ) (a : EffectAccess) 
       rw (effect_good l mask d id o w a (λ q. omega arith) m clean) (with_effect_sound d (effect id (latest d) o w a) s (omega arith) (faultless_fits h clean) (faultless_alone clean)))
       (true_or_false (effect_bad mask d o w))
 
-  pub add_effect_sound : (l : Limits) → l.effects ≤ effect_room → Sound (add_effect_of l mask d id o w a).state
+  pub add_effect_sound : (l : Limits) → l.effects ≤ effect_room → Sound (result_unwrap_or (add_effect_of l mask d id o w a) d)
   add_effect_sound l fit =
       ⊎_elim (λ (h : 0 < d.count). ⊎_elim (λ (m : d.effect_count < l.effects). decided_sound l fit h m)
       (λ (m : l.effects ≤ d.effect_count). rw (effect_full l mask d id o w a (λ q. omega arith) m) s)

@@ -2,21 +2,24 @@
 use Prim.Native.Nat.{ℕ, ◌+◌, ◌<◌, ◌≤◌}
 use mathlib.Core.Bool.{Bool, true, false, ◌&&◌, and-false, cond}
 use mathlib.Core.List.{List, []}
-use mathlib.Core.Path.{◌≡◌, ◌∙◌}
+use mathlib.Core.Path.{◌≡◌, refl, ap, ◌∙◌}
 use native.Mathlib.Omega.{arith}
-use borrow.Author.Tests.{ltb-true, leb-true, eqb-true, lt-ltb, le-leb, le-ltb, eq-eqb, ne_eqb}
+use borrow.Author.Tests.{ltb-true, leb-true, eqb-true, lt-ltb, lt-leb, le-leb, le-ltb, eq-eqb, ne_eqb}
 use lib.Dec.{ltb, leb, eqb}
 use lib.ListN.{length, get_or, drop, length-take, length-drop}
 use lib.Seq.{get_or-take, get_or-drop}
+use Rattle.std.proofs.Common.{Some, None}
 use Rattle.word.proofs.Tests.{and_left, and_right}
 use Rattle.capability.specs.Size.{body_most}
-use Rattle.capability.specs.Layout.{layout_of}
+use Rattle.capability.specs.Layout.{layout_of, placed_or_nothing}
 use Rattle.capability.specs.Owner.{capability_count}
-use Rattle.capability.specs.Snapshot.{body_start, body_length}
-use Rattle.capability.specs.View.{viewed, Seen, body_in, body_of, view_copy}
+use Rattle.capability.specs.Snapshot.{body_start, body_length, copy_of}
+use Rattle.capability.specs.View.{viewed, Seen, body_in, body_of, view_of, view_copy}
 use Rattle.capability.specs.Laid.{Laid}
 use Rattle.capability.specs.declared.declared.Capabilities.{Capabilities}
 use Rattle.capability.specs.declared.placed.Placed.{Placed}
+use Rattle.capability.specs.declared.snapshot.Snapshot.{Snapshot}
+use Rattle.capability.specs.declared.view.ViewCopy.{ViewCopy}
 use Rattle.capability.proofs.Laids.{layout_laid}
 use Rattle.capability.proofs.Snapshots.{copy_length, copy_byte}
 
@@ -60,10 +63,18 @@ module _ (p : Placed) (i : ℕ) (live power : List ℕ) (space : ℕ) where
   unfolding viewed
   none_power h = rw (ne_eqb (length power) space h, and-false (eqb (length live) space)) (and-false there)
 
-  -- the last test
-  pub viewed_last : i < capability_count p → length live ≡ space → length power ≡ space → leb (body_start p i + body_length p i) space ≡ viewed p i live power space
+  pub none_end : space < body_start p i + body_length p i → viewed p i live power space ≡ false
   unfolding viewed
-  viewed_last a b c = rw (lt-ltb i (capability_count p) a, eq-eqb (length live) space b, eq-eqb (length power) space c)
+  none_end h = rw (lt-leb (body_start p i + body_length p i) space h, and-false (eqb (length power) space), and-false (eqb (length live) space)) (and-false there)
+
+  -- the view is the body in the image that is asked for
+  pub view_seen : (fromLive : Bool) → Seen p i live power space → view_of p i live power space fromLive ≡ Some (body_in p i (cond fromLive live power))
+  unfolding view_of
+  view_seen fromLive s = rw (seen_viewed s)
+
+  pub view_none : (fromLive : Bool) → viewed p i live power space ≡ false → view_of p i live power space fromLive ≡ None
+  unfolding view_of
+  view_none fromLive e = rw e
 
   -- what is shown
   pub shown_live : viewed p i live power space ≡ true → body_of p i live power space true ≡ body_in p i live
@@ -98,16 +109,27 @@ module _ (p : Placed) (i : ℕ) (live power : List ℕ) (space : ℕ) (fromLive 
   abbrev body : List ℕ
   body = body_of p i live power space fromLive
 
+  abbrev copy : ViewCopy
+  copy = view_copy (view_of p i live power space fromLive)
+
   view_fits : length body ≤ body_most
   unfolding body_of
   view_fits = fits_by (viewed p i live power space) p i (cond fromLive live power)
 
-  -- so nothing of a view is lost in its copy
-  pub view_copy_length : (view_copy (viewed p i live power space) body).body.length ≡ length body
-  view_copy_length = copy_length body view_fits
+  copied_by : (t : Bool) → viewed p i live power space ≡ t → copy.body ≡ copy_of body
+  unfolding view_of body_of
+  copied_by true e = rw e
+  copied_by false e = rw e
 
-  pub view_copy_byte : (k : ℕ) → k < length body → get_or (view_copy (viewed p i live power space) body).body.bytes k 0 ≡ get_or body k 0
-  view_copy_byte k h = copy_byte body view_fits k h
+  copied : copy.body ≡ copy_of body
+  copied = copied_by (viewed p i live power space) refl
+
+  -- so nothing of a view is lost in its copy
+  pub view_copy_length : copy.body.length ≡ length body
+  view_copy_length = ap (λ (x : Snapshot). x.length) copied ∙ copy_length body view_fits
+
+  pub view_copy_byte : (k : ℕ) → k < length body → get_or copy.body.bytes k 0 ≡ get_or body k 0
+  view_copy_byte k h = ap (λ (x : Snapshot). get_or x.bytes k 0) copied ∙ copy_byte body view_fits k h
 
 -- in what a layout gives the body always ends in the space: so there is none for document 01's two reasons only, an index past the last and an image of another length
 pub laid_viewed : (space : ℕ) (p : Placed) → Laid space p → (i : ℕ) (live power : List ℕ) → i < p.count → length live ≡ space → length power ≡ space → viewed p i live power space ≡ true
@@ -115,5 +137,5 @@ unfolding body_start body_length
 laid_viewed space p l i live power h a b =
     seen_viewed p i live power space (record { present = omega (arith, l.counted); live_whole = a; power_whole = b; ends = omega (arith, l.inside i h) })
 
-pub layout_viewed : (space : ℕ) (d : Capabilities) (i : ℕ) (live power : List ℕ) → i < (layout_of space d).placed.count → length live ≡ space → length power ≡ space → viewed (layout_of space d).placed i live power space ≡ true
-layout_viewed space d = laid_viewed space (layout_of space d).placed (layout_laid space d)
+pub layout_viewed : (space : ℕ) (d : Capabilities) (i : ℕ) (live power : List ℕ) → i < (placed_or_nothing (layout_of space d)).count → length live ≡ space → length power ≡ space → viewed (placed_or_nothing (layout_of space d)) i live power space ≡ true
+layout_viewed space d = laid_viewed space (placed_or_nothing (layout_of space d)) (layout_laid space d)

@@ -1,13 +1,13 @@
 -- A function's capabilities and effects as they are declared (document 01, tags 6 and 7).
-use Rattle.std.specs.Prelude.{ℕ, ◌+◌, ◌-◌, min, cond, leb, get_or, set}
+use Rattle.std.specs.Prelude.{Result, Ok, Err, ℕ, ◌+◌, ◌-◌, min, cond, leb, get_or, set}
+use Rattle.refusal.specs.declared.refusal.Refusal.{Refusal}
+use Rattle.refusal.specs.declared.refusal.Refusal.TheVariants as refusal
 use Rattle.word.specs.Table.{table}
 use Rattle.address.specs.Limits.{capability_room, effect_room}
 use Rattle.capability.specs.Size.{body_most}
 use Rattle.capability.specs.Effect.{no_effect}
 use Rattle.capability.specs.declared.effect.Effect.{Effect}
 use Rattle.capability.specs.declared.declared.Capability.{Capability}
-use Rattle.capability.specs.declared.declared.CapabilityAnswer.{CapabilityAnswer}
-use Rattle.capability.specs.declared.declared.CapabilityAnswer.TheVariants as capability_answer
 use Rattle.capability.specs.declared.declared.Capabilities.{Capabilities}
 
 -- a capability: its id, and the length of its body
@@ -15,8 +15,8 @@ abbrev pub capability : ℕ → ℕ → Capability
 capability id length = record { id = id; length = length }
 
 -- one with a body that is not too long, or refusal 10
-unfoldable pub capability_of : ℕ → ℕ → CapabilityAnswer
-capability_of id length = cond (leb length body_most) (capability_answer.Good (capability id length)) capability_answer.Bad
+unfoldable pub capability_of : ℕ → ℕ → Result Capability Refusal
+capability_of id length = cond (leb length body_most) (Ok (capability id length)) (Err refusal.LongBody)
 
 -- what stands past the last capability of a list
 abbrev pub no_capability : Capability

@@ -1,9 +1,9 @@
 -- Effects as they are declared (document 01, tag 7).
-use Rattle.std.specs.Prelude.{ℕ, cond, eqb}
+use Rattle.std.specs.Prelude.{Result, Ok, Err, ℕ, cond, eqb}
+use Rattle.refusal.specs.declared.refusal.Refusal.{Refusal}
+use Rattle.refusal.specs.declared.refusal.Refusal.TheVariants as refusal
 use Rattle.capability.specs.declared.effect.EffectAccess.{EffectAccess}
 use Rattle.capability.specs.declared.effect.EffectAccess.TheVariants.{Read, Write, ReadWrite}
-use Rattle.capability.specs.declared.effect.AccessAnswer.{AccessAnswer}
-use Rattle.capability.specs.declared.effect.AccessAnswer.TheVariants as access_answer
 use Rattle.capability.specs.declared.effect.Effect.{Effect}
 
 -- "access 1 (1 read, 2 write, 3 both)"
@@ -22,9 +22,9 @@ effect_access_number Write = access_write
 effect_access_number ReadWrite = access_both
 
 -- the access that has the number; any other number has none
-unfoldable pub access_of_number : ℕ → AccessAnswer
+unfoldable pub access_of_number : ℕ → Result EffectAccess Refusal
 access_of_number n =
-    cond (eqb n access_read) (access_answer.Good Read) (cond (eqb n access_write) (access_answer.Good Write) (cond (eqb n access_both) (access_answer.Good ReadWrite) access_answer.Bad))
+    cond (eqb n access_read) (Ok Read) (cond (eqb n access_write) (Ok Write) (cond (eqb n access_both) (Ok ReadWrite) (Err refusal.BadForm)))
 
 -- an effect of the capability at index k: its w bytes from o on
 abbrev pub effect : ℕ → ℕ → ℕ → ℕ → EffectAccess → Effect

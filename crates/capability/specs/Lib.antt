@@ -20,6 +20,5 @@ pub mod Snapshot
 pub mod View
 pub mod Laid
 pub mod LaidApart
-pub mod Number
 pub mod RustWalk
 pub mod RustMode

@@ -1,5 +1,5 @@
 -- Capability views (document 01, "Power-on image": "A capability view hands back the body from the live image or from the power-on image, as asked. A capability index past the last, or a lent image that isn't 256 bytes long, is answered by none, which differs from an empty body").
-use Rattle.std.specs.Prelude.{ℕ, ◌+◌, ◌<◌, ◌≤◌, Bool, ◌&&◌, cond, List, [], ◌≡◌, ltb, leb, eqb, length, take, drop}
+use Rattle.std.specs.Prelude.{Option, Some, None, ℕ, ◌+◌, ◌<◌, ◌≤◌, Bool, true, false, ◌&&◌, cond, List, [], ◌≡◌, ltb, leb, eqb, length, take, drop}
 use Rattle.capability.specs.Owner.{capability_count}
 use Rattle.capability.specs.Snapshot.{body_start, body_length, copy_of}
 use Rattle.capability.specs.declared.placed.Placed.{Placed}
@@ -25,6 +25,11 @@ body_in p i image = take (body_length p i) (drop (body_start p i) image)
 unfoldable pub body_of : Placed → ℕ → List ℕ → List ℕ → ℕ → Bool → List ℕ
 body_of p i live powerOn space fromLive = cond (viewed p i live powerOn space) (body_in p i (cond fromLive live powerOn)) []
 
+-- the view: an absent one differs from an empty body
+unfoldable pub view_of : Placed → ℕ → List ℕ → List ℕ → ℕ → Bool → Option (List ℕ)
+view_of p i live powerOn space fromLive = cond (viewed p i live powerOn space) (Some (body_in p i (cond fromLive live powerOn))) None
+
 -- a view, copied
-abbrev pub view_copy : Bool → List ℕ → ViewCopy
-view_copy found body = record { found = found; body = copy_of body }
+abbrev pub view_copy : Option (List ℕ) → ViewCopy
+view_copy (Some body) = record { found = true; body = copy_of body }
+view_copy None = record { found = false; body = copy_of [] }

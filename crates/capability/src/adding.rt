@@ -1,43 +1,15 @@
-// Adding an effect to the latest capability: refusal 11.
+// Adding an effect to the latest capability: refusals 3, 4 and 11.
 ghost use Rattle.std.specs.Prelude.{◌≡◌, ◌≤◌};
 ghost use Rattle.address.specs.Limits.{limits, effect_room};
 ghost use Rattle.capability.specs.Declaration.{latest};
 ghost use Rattle.capability.specs.BadEffect.{mask_at, clashes, overlaps_earlier, covers_writable, effect_bad};
 ghost use Rattle.capability.specs.Addition.{add_effect_of};
-ghost use Rattle.capability.specs.Number.{effect_added_number};
 
 use crate::declared::Capabilities;
 use crate::effect::{Effect, EffectAccess};
 use crate::placed::CAPABILITY_HEADER_SIZE;
 use address::limits::EFFECT_LIMIT;
-
-#[derive(Clone, Copy)]
-pub enum EffectAdded {
-    Added,
-    NoCapability,
-    Full,
-    Bad,
-}
-
-#[derive(Clone, Copy)]
-pub struct EffectDone {
-    pub answer: EffectAdded,
-    pub state: Capabilities,
-}
-
-impl EffectAdded {
-    // Document 01's number for the answer.
-    pub fn number(self) -> u8
-        ensures { result ≡ effect_added_number self }
-    {
-        match self {
-            EffectAdded::Added => refusal::ACCEPTED,
-            EffectAdded::NoCapability => refusal::OUT_OF_ORDER,
-            EffectAdded::Full => refusal::ABOVE_LIMIT,
-            EffectAdded::Bad => refusal::BAD_EFFECT,
-        }
-    }
-}
+use refusal::Refusal;
 
 // Whether a region of a capability overlaps that of an earlier effect there.
 fn overlaps_one(earlier: Effect, capability: u8, offset: u8, length: u8) -> bool
@@ -135,7 +107,7 @@ fn effect_bad(mask: &[u8], declared: Capabilities, offset: u8, length: u8) -> bo
 }
 
 impl Capabilities {
-    // Declares an effect of the latest capability, whose body has the write masks `mask`; a refused one changes nothing.
+    // Declares an effect of the latest capability, whose body has the write masks `mask`.
     pub fn add_effect(
         self,
         mask: &[u8],
@@ -143,28 +115,19 @@ impl Capabilities {
         offset: u8,
         length: u8,
         access: EffectAccess,
-    ) -> EffectDone
+    ) -> Result<Capabilities, Refusal>
         ensures { result ≡ add_effect_of limits mask.now self id offset length access }
     {
         if self.count == 0 {
-            return EffectDone {
-                answer: EffectAdded::NoCapability,
-                state: self,
-            };
+            return Err(Refusal::OutOfOrder);
         }
         let n = self.effect_count;
         if EFFECT_LIMIT <= n {
-            return EffectDone {
-                answer: EffectAdded::Full,
-                state: self,
-            };
+            return Err(Refusal::AboveLimit);
         }
         let bad = effect_bad(mask, self, offset, length);
         if bad {
-            return EffectDone {
-                answer: EffectAdded::Bad,
-                state: self,
-            };
+            return Err(Refusal::BadEffect);
         }
         let capability = latest_of(self);
         let mut out = self;
@@ -176,9 +139,6 @@ impl Capabilities {
             access,
         };
         out.effect_count = n + 1;
-        EffectDone {
-            answer: EffectAdded::Added,
-            state: out,
-        }
+        Ok(out)
     }
 }

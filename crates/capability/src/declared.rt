@@ -3,27 +3,21 @@ ghost use Rattle.std.specs.Prelude.{◌≡◌};
 ghost use Rattle.address.specs.Limits.{limits};
 ghost use Rattle.capability.specs.Declaration.{capability_of, no_capability, none_declared, count_of, effect_count_of, length_at};
 ghost use Rattle.capability.specs.Addition.{add_capability_of};
-ghost use Rattle.capability.specs.Number.{capability_answer_number, capability_added_number};
 
 use crate::effect::Effect;
 use crate::placed::CAPABILITY_BODY_MAX_SIZE;
 use address::limits::{CAPABILITY_LIMIT, EFFECT_LIMIT};
+use refusal::Refusal;
 
 // A capability: its id, and the length of its body.
-#[derive(Clone, Copy)]
+#[derive(Clone, Copy, Debug, PartialEq, Eq)]
 pub struct Capability {
     id: u8,
     length: u8,
 }
 
-#[derive(Clone, Copy)]
-pub enum CapabilityAnswer {
-    Good(Capability),
-    Bad,
-}
-
 // Those of a function in declaration order, with their effects; what lies past a count is blank.
-#[derive(Clone, Copy)]
+#[derive(Clone, Copy, Debug, PartialEq, Eq)]
 pub struct Capabilities {
     pub list: [Capability; CAPABILITY_LIMIT],
     pub count: usize,
@@ -31,30 +25,18 @@ pub struct Capabilities {
     pub effect_count: usize,
 }
 
-#[derive(Clone, Copy)]
-pub enum CapabilityAdded {
-    Added,
-    Full,
-}
-
-#[derive(Clone, Copy)]
-pub struct CapabilityDone {
-    pub answer: CapabilityAdded,
-    pub state: Capabilities,
-}
-
 impl Capability {
     // Refusal 10.
-    pub fn new(id: u8, length: usize) -> CapabilityAnswer
+    pub fn new(id: u8, length: usize) -> Result<Capability, Refusal>
         ensures { result ≡ capability_of id length }
     {
         if length <= CAPABILITY_BODY_MAX_SIZE {
-            CapabilityAnswer::Good(Capability {
+            Ok(Capability {
                 id,
                 length: length as u8,
             })
         } else {
-            CapabilityAnswer::Bad
+            Err(Refusal::LongBody)
         }
     }
 
@@ -76,30 +58,6 @@ impl Capability {
         ensures { result ≡ self.length }
     {
         self.length
-    }
-}
-
-impl CapabilityAnswer {
-    // Document 01's number for the answer.
-    pub fn number(self) -> u8
-        ensures { result ≡ capability_answer_number self }
-    {
-        match self {
-            CapabilityAnswer::Good(_) => refusal::ACCEPTED,
-            CapabilityAnswer::Bad => refusal::LONG_BODY,
-        }
-    }
-}
-
-impl CapabilityAdded {
-    // Document 01's number for the answer.
-    pub fn number(self) -> u8
-        ensures { result ≡ capability_added_number self }
-    {
-        match self {
-            CapabilityAdded::Added => refusal::ACCEPTED,
-            CapabilityAdded::Full => refusal::ABOVE_LIMIT,
-        }
     }
 }
 
@@ -140,23 +98,17 @@ impl Capabilities {
         capability.length
     }
 
-    // Declares one more capability; a full list stays as it is.
-    pub fn add_capability(self, capability: Capability) -> CapabilityDone
+    // Declares one more capability: refusal 4.
+    pub fn add_capability(self, capability: Capability) -> Result<Capabilities, Refusal>
         ensures { result ≡ add_capability_of limits self capability }
     {
         let n = self.count;
         if CAPABILITY_LIMIT <= n {
-            return CapabilityDone {
-                answer: CapabilityAdded::Full,
-                state: self,
-            };
+            return Err(Refusal::AboveLimit);
         }
         let mut out = self;
         out.list[n] = capability;
         out.count = n + 1;
-        CapabilityDone {
-            answer: CapabilityAdded::Added,
-            state: out,
-        }
+        Ok(out)
     }
 }

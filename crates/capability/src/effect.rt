@@ -1,31 +1,20 @@
 // Effects as they are declared.
 ghost use Rattle.std.specs.Prelude.{◌≡◌};
 ghost use Rattle.capability.specs.Effect.{effect_access_number, access_of_number, no_effect};
-ghost use Rattle.capability.specs.Number.{access_answer_number};
+ghost use Rattle.capability.specs.Touch.{allows};
 
-// Document 01's numbers for an effect's access.
-pub const ACCESS_READ: u8 = 1;
+use refusal::Refusal;
 
-pub const ACCESS_WRITE: u8 = 2;
-
-pub const ACCESS_BOTH: u8 = 3;
-
-// The directions that an effect allows.
-#[derive(Clone, Copy)]
+// The directions that an effect allows, with document 01's numbers.
+#[derive(Clone, Copy, Debug, PartialEq, Eq)]
 pub enum EffectAccess {
-    Read,
-    Write,
-    ReadWrite,
-}
-
-#[derive(Clone, Copy)]
-pub enum AccessAnswer {
-    Good(EffectAccess),
-    Bad,
+    Read = 1,
+    Write = 2,
+    ReadWrite = 3,
 }
 
 // An effect of the capability at index `capability`: `length` bytes, from `offset` bytes after that one's start.
-#[derive(Clone, Copy)]
+#[derive(Clone, Copy, Debug, PartialEq, Eq)]
 pub struct Effect {
     pub id: u16,
     pub capability: u8,
@@ -36,40 +25,31 @@ pub struct Effect {
 
 impl EffectAccess {
     // The access that document 01 gives the number.
-    pub fn new(number: u8) -> AccessAnswer
+    pub fn new(number: u8) -> Result<EffectAccess, Refusal>
         ensures { result ≡ access_of_number number }
     {
-        if number == ACCESS_READ {
-            return AccessAnswer::Good(EffectAccess::Read);
+        match number {
+            1 => Ok(EffectAccess::Read),
+            2 => Ok(EffectAccess::Write),
+            3 => Ok(EffectAccess::ReadWrite),
+            _ => Err(Refusal::BadForm),
         }
-        if number == ACCESS_WRITE {
-            return AccessAnswer::Good(EffectAccess::Write);
-        }
-        if number == ACCESS_BOTH {
-            return AccessAnswer::Good(EffectAccess::ReadWrite);
-        }
-        AccessAnswer::Bad
     }
 
     pub fn number(self) -> u8
         ensures { result ≡ effect_access_number self }
     {
-        match self {
-            EffectAccess::Read => ACCESS_READ,
-            EffectAccess::Write => ACCESS_WRITE,
-            EffectAccess::ReadWrite => ACCESS_BOTH,
-        }
+        self as u8
     }
-}
 
-impl AccessAnswer {
-    // Document 01's number for the answer.
-    pub fn number(self) -> u8
-        ensures { result ≡ access_answer_number self }
+    // Whether it allows a direction.
+    pub(crate) fn allows(self, write: bool) -> bool
+        ensures { result ≡ allows write (effect_access_number self) }
     {
         match self {
-            AccessAnswer::Good(_) => refusal::ACCEPTED,
-            AccessAnswer::Bad => refusal::BAD_FORM,
+            EffectAccess::Read => !write,
+            EffectAccess::Write => write,
+            EffectAccess::ReadWrite => true,
         }
     }
 }

@@ -2,7 +2,7 @@
 ghost use Rattle.std.specs.Prelude.{◌≡◌};
 ghost use Rattle.capability.specs.Touch.{allows, decision, touch_of};
 
-use crate::effect::{ACCESS_BOTH, ACCESS_READ, ACCESS_WRITE};
+use crate::effect::EffectAccess;
 use crate::owner::{effect_at, effect_holds, first_touched, region_start, span_at};
 use crate::placed::{Placed, PlacedEffect};
 use address::ConfigOffset;
@@ -18,17 +18,13 @@ pub struct EffectHit {
     pub region_offset: u16,
 }
 
-// Whether an effect allows a direction.
+// Whether an effect with this access number allows a direction.
 fn access_allows(access: u8, write: bool) -> bool
     ensures { result ≡ allows write access }
 {
-    if access == ACCESS_BOTH {
-        return true;
-    }
-    if write {
-        access == ACCESS_WRITE
-    } else {
-        access == ACCESS_READ
+    match EffectAccess::new(access) {
+        Ok(access) => access.allows(write),
+        Err(_) => false,
     }
 }
 

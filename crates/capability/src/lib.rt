@@ -15,16 +15,15 @@ mod repeat;
 mod snapshot;
 mod view;
 
-pub use adding::{EffectAdded, EffectDone};
 pub use byte_mode::{ByteMode, capability_at, mode_of};
-pub use declared::{Capabilities, Capability, CapabilityAdded, CapabilityAnswer, CapabilityDone};
-pub use effect::{ACCESS_BOTH, ACCESS_READ, ACCESS_WRITE, AccessAnswer, Effect, EffectAccess};
+pub use declared::{Capabilities, Capability};
+pub use effect::{Effect, EffectAccess};
 pub use effect_access::{EffectHit, effect_for_access};
-pub use layout::{LayoutAnswer, LayoutDone, layout_capabilities};
+pub use layout::{LayoutRefusal, layout_capabilities};
 pub use offset::CAPABILITY_ALIGNMENT;
 pub use owner::{capability_count, capability_start, owner_of};
 pub use placed::{
     CAPABILITY_BODY_MAX_SIZE, CAPABILITY_HEADER_SIZE, Placed, PlacedCapability, PlacedEffect,
 };
 pub use snapshot::{Snapshot, snapshot_of};
-pub use view::{View, ViewCopy, has_view, shown_or, view_copy, view_of};
+pub use view::{ViewCopy, view_copy, view_of};

@@ -1,5 +1,5 @@
 // Declared capabilities and effects, put at their places.
-ghost use Rattle.std.specs.Prelude.{◌≡◌, ℕ, ◌≤◌, ◌<◌, get_or};
+ghost use Rattle.std.specs.Prelude.{◌≡◌, ℕ, ◌≤◌, ◌<◌, Ok, get_or};
 ghost use Rattle.word.specs.Table.{filled};
 ghost use Rattle.address.specs.Limits.{capability_room, effect_room};
 ghost use Rattle.capability.specs.Effect.{no_effect};
@@ -10,7 +10,6 @@ ghost use Rattle.capability.specs.Layout.{answer_of, placed_capability, placed_e
 
 use crate::declared::Capabilities;
 use crate::effect::Effect;
-use crate::layout::LayoutAnswer;
 use crate::offset::{next_offset, offset_in};
 use crate::placed::{Placed, PlacedCapability, PlacedEffect};
 use address::config_layout::CONFIG_STANDARD_HEADER_END;
@@ -72,7 +71,7 @@ fn place_effects(effects: [Effect; EFFECT_LIMIT], count: usize) -> [PlacedEffect
 
 // Everything at its place; `space` is checked.
 pub(crate) fn place(space: u16, declared: Capabilities) -> Placed
-    requires { answer_of space declared ≡ LayoutAnswer.Placed }
+    requires { answer_of space declared ≡ Ok tt }
     ensures { result ≡ placed_of declared }
 {
     let count = declared.declared_count();

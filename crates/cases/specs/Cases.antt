@@ -1,7 +1,8 @@
 -- The cases of document 01 marked P, as one statement over one list. Each question is put to the definition that the promises cite.
-use Rattle.std.specs.Prelude.{ℕ, true, false, List, [], map, ◌∷◌, length, take, Some, None, Ok, Err}
+use Rattle.std.specs.Prelude.{ℕ, true, false, List, [], map, ◌∷◌, length, take, Some, None, Ok, Err, Result}
+use Rattle.refusal.specs.Number.{accepted}
+use Rattle.refusal.specs.Refusal.{number_of, answer_number}
 use Rattle.address.specs.Layout.{config_space_size}
-use Rattle.refusal.specs.Refusal.{answer_number}
 use Rattle.address.specs.Check.{access_of}
 use Rattle.bar.specs.Register.{size_mask, class_of}
 use Rattle.bar.specs.State.{asks}
@@ -10,12 +11,10 @@ use Rattle.bar.specs.declared.bar_state.BarWrite.TheVariants as bar_write
 use Rattle.bar.specs.declared.bar_state.BarState.{BarState}
 use Rattle.bar.specs.declared.range.Aperture.{Aperture}
 use Rattle.capability.specs.Declaration.{capability_of, none_declared}
-use Rattle.capability.specs.Layout.{layout_of}
-use Rattle.refusal.specs.Refusal.{number_of}
-use Rattle.capability.specs.Number.{capability_answer_number, layout_answer_number}
+use Rattle.capability.specs.Layout.{layout_of, placed_or_nothing}
 use Rattle.capability.specs.Touch.{touch_of, Touch}
-use Rattle.capability.specs.declared.layout.LayoutAnswer.{LayoutAnswer}
-use Rattle.capability.specs.declared.layout.LayoutAnswer.TheVariants as layout_answer
+use Rattle.capability.specs.declared.placed.Placed.{Placed}
+use Rattle.capability.specs.declared.layout.LayoutRefusal.{LayoutRefusal}
 use Rattle.capability.specs.declared.placed.PlacedCapability.{PlacedCapability}
 use Rattle.config.specs.Read.{read_of}
 use Rattle.config.specs.Write.{write_of}
@@ -50,10 +49,9 @@ pub data Reply : Type 0 where
   refusal_at : ℕ → ℕ → Reply
 
 -- a layout that is refused names the capability's index too
-abbrev pub layout_reply : LayoutAnswer → Reply
-layout_reply layout_answer.Placed = refusal_is (layout_answer_number layout_answer.Placed)
-layout_reply (layout_answer.Repeated k) = refusal_at (layout_answer_number (layout_answer.Repeated k)) k
-layout_reply (layout_answer.PastEnd k) = refusal_at (layout_answer_number (layout_answer.PastEnd k)) k
+abbrev pub layout_reply : Result Placed LayoutRefusal → Reply
+layout_reply (Ok p) = refusal_is accepted
+layout_reply (Err r) = refusal_at (number_of r.refusal) r.index
 
 abbrev pub touch_reply : Touch → Reply
 touch_reply (Ok None) = touches (Ok None)
@@ -65,9 +63,9 @@ answer (mask size) = number_is (size_mask size)
 answer (dword d) = asks_for (class_of d)
 answer (write b lane width value) = asks_for (asks b lane width value)
 answer (check o w) = refusal_is (answer_number (access_of config_space_size o w))
-answer (bodies ns) = layout_reply (layout_of config_space_size (declare none_declared ns)).answer
-answer (starts ns) = numbers_are (map (λ (p : PlacedCapability). p.offset.0) (take (length ns) (layout_of config_space_size (declare none_declared ns)).placed.capabilities))
-answer (body n) = refusal_is (capability_answer_number (capability_of 9 n))
+answer (bodies ns) = layout_reply (layout_of config_space_size (declare none_declared ns))
+answer (starts ns) = numbers_are (map (λ (p : PlacedCapability). p.offset.0) (take (length ns) (placed_or_nothing (layout_of config_space_size (declare none_declared ns))).capabilities))
+answer (body n) = refusal_is (answer_number (capability_of 9 n))
 answer (effect_at o w) = touch_reply (touch_of p8_placed o w false)
 answer (written o w v) = reads (read_of (write_of plain o w v).state o w).answer
 answer (place aperture bars) = refusal_is (placement_number (placement_of aperture bars))

@@ -1,5 +1,6 @@
 -- What the cases ask about: a BAR, capabilities, an effect, a function at power-on. Each has the shape that code holds.
 use Rattle.std.specs.Prelude.{ℕ, Bool, List, [], ◌∷◌, replicate, None}
+use Rattle.std.specs.Result.{result_unwrap_or}
 use Rattle.address.specs.Layout.{config_space_size, bar_count}
 use Rattle.address.specs.Limits.{limits, capability_room, effect_room, config_byte_room}
 use Rattle.address.specs.Kinds.{slot, offset}
@@ -24,7 +25,7 @@ use Rattle.config.specs.declared.state.FunctionState.{FunctionState}
 -- capabilities with bodies of these lengths
 abbrev pub declare : Capabilities → List ℕ → Capabilities
 declare d [] = d
-declare d (n ∷ ns) = declare (add_capability_of limits d (capability 9 n)).state ns
+declare d (n ∷ ns) = declare (result_unwrap_or (add_capability_of limits d (capability 9 n)) d) ns
 
 -- an effect at offset 3, of length 2, for both directions, of the capability at 0x40
 abbrev pub p8_effect : PlacedEffect

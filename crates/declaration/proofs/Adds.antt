@@ -4,7 +4,10 @@ use mathlib.Core.Bool.{true, false}
 use mathlib.Core.List.{List}
 use mathlib.Core.Logic.{⊎_elim}
 use mathlib.Core.Path.{◌≡◌}
-use Rattle.refusal.specs.Number.{accepted, out_of_order, above_limit, bad_effect}
+use Rattle.refusal.specs.Refusal.{number_of}
+use Rattle.refusal.specs.declared.refusal.Refusal.{Refusal}
+use Rattle.std.proofs.Common.{Result, Ok, Err}
+use Rattle.refusal.specs.Number.{accepted}
 use Rattle.word.proofs.Tests.{below_or_not, same_or_not, true_or_false, both}
 use Rattle.address.specs.Limits.{Limits}
 use Rattle.capability.specs.Size.{body_most}
@@ -13,10 +16,6 @@ use Rattle.capability.specs.BadEffect.{effect_bad}
 use Rattle.capability.specs.Addition.{add_capability_of, add_effect_of}
 use Rattle.capability.specs.declared.effect.EffectAccess.{EffectAccess}
 use Rattle.capability.specs.declared.declared.Capabilities.{Capabilities}
-use Rattle.capability.specs.declared.declared.CapabilityAdded.{CapabilityAdded}
-use Rattle.capability.specs.declared.declared.CapabilityAdded.TheVariants as capability_added
-use Rattle.capability.specs.declared.adding.EffectAdded.{EffectAdded}
-use Rattle.capability.specs.declared.adding.EffectAdded.TheVariants as effect_added
 use Rattle.capability.proofs.Faults.{bad_fault, fault_bad}
 use Rattle.capability.proofs.Additions as additions
 use Rattle.declaration.specs.Blank.{no_mask}
@@ -38,25 +37,23 @@ with_bytes s n body d =
       mask = with_part no_mask 0 (mask_part n body);
     }
 
-abbrev pub after_capability : SoFar → ℕ → List ℕ → CapabilityAdded → Capabilities → Taken
-after_capability s n body capability_added.Added d = taken accepted (with_bytes s n body d)
-after_capability s n body capability_added.Full d = taken above_limit s
+abbrev pub after_capability : SoFar → ℕ → List ℕ → Result Capabilities Refusal → Taken
+after_capability s n body (Ok d) = taken accepted (with_bytes s n body d)
+after_capability s n body (Err r) = taken (number_of r) s
 
-pub capability_step : (l : Limits) (s : SoFar) (id n : ℕ) (body : List ℕ) → n ≤ body_most → (s.count ≡ 0 → ⊥) → taken_said l s (said.Capability id n) body ≡ after_capability s n body (add_capability_of l s.function.capabilities (capability id n)).answer (add_capability_of l s.function.capabilities (capability id n)).state
+pub capability_step : (l : Limits) (s : SoFar) (id n : ℕ) (body : List ℕ) → n ≤ body_most → (s.count ≡ 0 → ⊥) → taken_said l s (said.Capability id n) body ≡ after_capability s n body (add_capability_of l s.function.capabilities (capability id n))
 capability_step l s id n body b h =
     let d = s.function.capabilities in
     ⊎_elim (λ (m : d.count < l.capabilities). rw (capability_taken l s id n body b h m, additions.add_good l d (capability id n) m))
     (λ (m : l.capabilities ≤ d.count). rw (capability_above l s id n body b h m, additions.add_full l d (capability id n) m))
     (below_or_not d.count l.capabilities)
 
-abbrev pub after_effect : SoFar → EffectAdded → Capabilities → Taken
-after_effect s effect_added.Added d = taken accepted (with_function s (with_capabilities s.function d))
-after_effect s effect_added.NoCapability d = taken out_of_order s
-after_effect s effect_added.Full d = taken above_limit s
-after_effect s effect_added.Bad d = taken bad_effect s
+abbrev pub after_effect : SoFar → Result Capabilities Refusal → Taken
+after_effect s (Ok d) = taken accepted (with_function s (with_capabilities s.function d))
+after_effect s (Err r) = taken (number_of r) s
 
 module _ (l : Limits) (s : SoFar) (id o w : ℕ) (a : EffectAccess) (body : List ℕ) (h : s.count ≡ 0 → ⊥) where
-  pub effect_step : taken_said l s (said.Effect id o w a) body ≡ after_effect s (add_effect_of l s.mask s.function.capabilities id o w a).answer (add_effect_of l s.mask s.function.capabilities id o w a).state
+  pub effect_step : taken_said l s (said.Effect id o w a) body ≡ after_effect s (add_effect_of l s.mask s.function.capabilities id o w a)
   effect_step =
       let d = s.function.capabilities in
       ⊎_elim (λ (n : d.count ≡ 0). rw (effect_unowned l s id o w a body h n, additions.effect_unowned l s.mask d id o w a n))

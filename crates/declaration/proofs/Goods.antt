@@ -5,11 +5,11 @@ use mathlib.Core.Logic.{⊎_elim}
 use mathlib.Core.Path.{◌≡◌, refl, ap}
 use native.Mathlib.Omega.{arith}
 use lib.ListN.{length}
+use Rattle.std.proofs.Common.{Ok}
 use Rattle.address.specs.Layout.{config_space_size}
 use Rattle.address.specs.Limits.{Limits, limits}
 use Rattle.bar.specs.declared.range.Aperture.{Aperture}
-use Rattle.capability.specs.Layout.{answer_of, placed_of, layout_of}
-use Rattle.capability.specs.declared.layout.LayoutAnswer.TheVariants as layout_answer
+use Rattle.capability.specs.Layout.{answer_of, placed_of, layout_of, placed_or_nothing}
 use Rattle.capability.proofs.Laids.{placed_laid}
 use Rattle.capability.proofs.Rulings.{ruling_is}
 use Rattle.config.specs.Admitted.{Admitted}
@@ -77,10 +77,10 @@ limits_within = record { functions = omega arith; capabilities = omega arith; ef
 
 -- a function without fault has what the laws of its power-on image ask for
 module _ (f : Function) (h : Faultless f) where
-  pub faultless_placed : answer_of config_space_size f.capabilities ≡ layout_answer.Placed
-  faultless_placed = ruling_is config_space_size f.capabilities layout_answer.Placed h.placed
+  pub faultless_placed : answer_of config_space_size f.capabilities ≡ Ok tt
+  faultless_placed = ruling_is config_space_size f.capabilities (Ok tt) h.placed
 
-  pub faultless_layout : (layout_of config_space_size f.capabilities).placed ≡ placed_of f.capabilities
+  pub faultless_layout : placed_or_nothing (layout_of config_space_size f.capabilities) ≡ placed_of f.capabilities
   unfolding layout_of
   faultless_layout = rw faultless_placed
 

@@ -3,17 +3,17 @@ use Prim.Native.Nat.{ℕ, ◌<◌, ◌≤◌}
 use mathlib.Core.Logic.{⊎_elim}
 use mathlib.Core.Path.{◌≡◌}
 use native.Mathlib.Omega.{arith}
+use Rattle.refusal.specs.declared.refusal.Refusal.{Refusal}
+use Rattle.std.proofs.Common.{Result, Ok, Err}
 use Rattle.word.proofs.Tests.{below_or_not}
 use Rattle.capability.specs.Size.{body_most}
 use Rattle.capability.specs.Declaration.{capability_of}
 use Rattle.capability.specs.declared.declared.Capability.{Capability}
-use Rattle.capability.specs.declared.declared.CapabilityAnswer.{CapabilityAnswer}
-use Rattle.capability.specs.declared.declared.CapabilityAnswer.TheVariants as capability_answer
 use Rattle.capability.proofs.Declarations.{capability_good}
 
-capability_two : (a : CapabilityAnswer) (k : Capability) → a ≡ capability_answer.Good k → a ≡ capability_answer.Bad → ⊥
-capability_two a k e f = let z : ◌≡◌ {A = ℕ} 0 1 = cc in absurd (omega arith)
+capability_two : (a : Result Capability Refusal) (k : Capability) (r : Refusal) → a ≡ Ok k → a ≡ Err r → ⊥
+capability_two a k r e f = let z : ◌≡◌ {A = ℕ} 0 1 = cc in absurd (omega arith)
 
-pub capability_none : (id n : ℕ) → capability_of id n ≡ capability_answer.Bad → body_most < n
-capability_none id n e =
-    ⊎_elim (λ (h : body_most < n). h) (λ (h : n ≤ body_most). absurd (capability_two (capability_of id n) _ (capability_good id n h) e)) (below_or_not body_most n)
+pub capability_none : (id n : ℕ) (r : Refusal) → capability_of id n ≡ Err r → body_most < n
+capability_none id n r e =
+    ⊎_elim (λ (h : body_most < n). h) (λ (h : n ≤ body_most). absurd (capability_two (capability_of id n) _ r (capability_good id n h) e)) (below_or_not body_most n)

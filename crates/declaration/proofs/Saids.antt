@@ -6,12 +6,13 @@ use mathlib.Core.Path.{◌≡◌, refl}
 use borrow.Author.Tests.{eqb-true, leb-true}
 use lib.Dec.{eqb, leb}
 use lib.ListN.{length}
+use Rattle.refusal.specs.declared.refusal.Refusal.{Refusal}
+use Rattle.std.proofs.Common.{Result, Ok, Err}
 use Rattle.word.specs.Number.{read_at}
 use Rattle.word.proofs.Tests.{and_left, and_right}
 use Rattle.bar.specs.declared.memory_bar.Request.TheVariants as request
 use Rattle.capability.specs.Effect.{access_of_number}
-use Rattle.capability.specs.declared.effect.AccessAnswer.{AccessAnswer}
-use Rattle.capability.specs.declared.effect.AccessAnswer.TheVariants as access_answer
+use Rattle.capability.specs.declared.effect.EffectAccess.{EffectAccess}
 use Rattle.capability.specs.declared.effect.EffectAccess.{EffectAccess}
 use Rattle.declaration.specs.Said.{byte_in, identity_in, aperture_said, function_said, intx_said, automatic_said, fixed_said, bar_said, config_byte_said, capability_said, access_said, effect_said, said_by, said_of}
 use Rattle.declaration.specs.Tag.{aperture_tag, function_tag, intx_tag, bar_tag, config_byte_tag, capability_tag, effect_tag, length_allowed, capability_body}
@@ -49,9 +50,9 @@ module _ (tag : ℕ) (body : List ℕ) (P : Said → Type 0) (f : Forms tag body
       chosen P (eqb (byte_in body 1) 0) (automatic_said body) (cond (eqb (byte_in body 1) 1) (fixed_said body) said.Bad) (λ e. by_automatic)
       (chosen P (eqb (byte_in body 1) 1) (fixed_said body) said.Bad (λ e. f.fixed) f.bad)
 
-  by_access : (a : AccessAnswer) → P (access_said body a)
-  by_access (access_answer.Good a) = f.effect a
-  by_access access_answer.Bad = f.bad
+  by_access : (a : Result EffectAccess Refusal) → P (access_said body a)
+  by_access (Ok a) = f.effect a
+  by_access (Err r) = f.bad
 
   by_tag : length_allowed tag (length body) ≡ true → P (said_by tag body)
   unfolding said_by

@@ -5,15 +5,15 @@ use mathlib.Core.Logic.{◌⊎◌, inl, inr, ⊎_elim}
 use mathlib.Core.Path.{◌≡◌, sym, ap, ◌∙◌}
 use native.Mathlib.Omega.{arith}
 use borrow.Author.Tests.{lt-ltb, le-ltb, ne_eqb}
+use Rattle.std.proofs.Common.{Ok, Err, Result}
 use Rattle.refusal.specs.Number.{accepted, bad_config_byte, repeated_effect, past_space}
 use Rattle.word.proofs.Tests.{both}
 use Rattle.word.proofs.Searches.{First, first_or_none, first_is, first_none, least_at, least_none}
 use Rattle.address.specs.Layout.{config_space_size}
 use Rattle.bar.specs.declared.range.Aperture.{Aperture}
-use Rattle.capability.specs.Layout.{answer_of, layout_of}
-use Rattle.capability.specs.Ruling.{Ruling}
-use Rattle.capability.specs.declared.layout.LayoutAnswer.{LayoutAnswer}
-use Rattle.capability.specs.declared.layout.LayoutAnswer.TheVariants as layout_answer
+use Rattle.capability.specs.Layout.{answer_of, layout_of, repeated_at, past_at}
+use Rattle.capability.specs.Ruling.{Ruling, placed, repeated, past}
+use Rattle.capability.specs.declared.layout.LayoutRefusal.{LayoutRefusal}
 use Rattle.capability.proofs.Rulings.{ruling, ruling_is}
 use Rattle.config.specs.ConfigByte.{byte_count, bad, byte_check_of}
 use Rattle.std.proofs.Common.{Ok}
@@ -28,15 +28,15 @@ use Rattle.declaration.specs.declared.whole.Fault.{Fault}
 
 module _ (f : Function) where
   -- each fault by its own ruling
-  repeated_fault : (k : ℕ) → answer_of config_space_size f.capabilities ≡ layout_answer.Repeated k → fault_of f ≡ fault repeated_effect k
+  repeated_fault : (k : ℕ) → answer_of config_space_size f.capabilities ≡ Err (repeated_at k) → fault_of f ≡ fault repeated_effect k
   unfolding fault_of layout_of
   repeated_fault k e = rw e
 
-  past_fault : (k : ℕ) → answer_of config_space_size f.capabilities ≡ layout_answer.PastEnd k → fault_of f ≡ fault past_space k
+  past_fault : (k : ℕ) → answer_of config_space_size f.capabilities ≡ Err (past_at k) → fault_of f ≡ fault past_space k
   unfolding fault_of layout_of
   past_fault k e = rw e
 
-  module _ (e : answer_of config_space_size f.capabilities ≡ layout_answer.Placed) where
+  module _ (e : answer_of config_space_size f.capabilities ≡ Ok tt) where
     byte_fault_lem : (i : ℕ) → First (bad_byte_at f) (byte_count f.contents) i → fault_of f ≡ fault bad_config_byte i
     unfolding fault_of layout_of byte_check_of
     byte_fault_lem i h = rw (e, first_is bad (Ok tt) (bad_byte_at f) (byte_count f.contents) i h)
@@ -46,9 +46,9 @@ module _ (f : Function) where
     no_fault h = rw (e, first_none bad (Ok tt) (bad_byte_at f) (byte_count f.contents) h)
 
   pub fault_is : (n i : ℕ) → FirstFault f n i → fault_of f ≡ fault n i
-  fault_is n i (repeated_id k r) = repeated_fault k (ruling_is config_space_size f.capabilities (layout_answer.Repeated k) r)
-  fault_is n i (past_end k r) = past_fault k (ruling_is config_space_size f.capabilities (layout_answer.PastEnd k) r)
-  fault_is n i (bad_byte k r l e b) = byte_fault_lem (ruling_is config_space_size f.capabilities layout_answer.Placed r) k (record { below = l; before = b; here = e })
+  fault_is n i (repeated_id k r) = repeated_fault k (ruling_is config_space_size f.capabilities (Err (repeated_at k)) r)
+  fault_is n i (past_end k r) = past_fault k (ruling_is config_space_size f.capabilities (Err (past_at k)) r)
+  fault_is n i (bad_byte k r l e b) = byte_fault_lem (ruling_is config_space_size f.capabilities (Ok tt) r) k (record { below = l; before = b; here = e })
 
   pub fault_refuses : (n i : ℕ) → FirstFault f n i → n ≡ accepted → ⊥
   fault_refuses n i (repeated_id k r) e = omega arith
@@ -56,14 +56,14 @@ module _ (f : Function) where
   fault_refuses n i (bad_byte k r l t b) e = omega arith
 
   pub faultless_is : Faultless f → fault_of f ≡ fault accepted 0
-  faultless_is h = no_fault (ruling_is config_space_size f.capabilities layout_answer.Placed h.placed) h.bytes
+  faultless_is h = no_fault (ruling_is config_space_size f.capabilities (Ok tt) h.placed) h.bytes
 
   -- and a function has a first fault or none
-  by_answer : (a : LayoutAnswer) → Ruling config_space_size f.capabilities a → ((n : ℕ) × (i : ℕ) × FirstFault f n i) ⊎ Faultless f
-  by_answer layout_answer.Placed r =
-      ⊎_elim (λ h. inl (bad_config_byte, h.0, bad_byte h.0 r h.1.below h.1.here h.1.before)) (λ h. inr (record { placed = r; bytes = h })) (first_or_none (bad_byte_at f) (byte_count f.contents))
-  by_answer (layout_answer.Repeated k) r = inl (repeated_effect, k, repeated_id k r)
-  by_answer (layout_answer.PastEnd k) r = inl (past_space, k, past_end k r)
+  by_answer : (a : Result (Unit {0}) LayoutRefusal) → Ruling config_space_size f.capabilities a → ((n : ℕ) × (i : ℕ) × FirstFault f n i) ⊎ Faultless f
+  by_answer a (placed s t) =
+      ⊎_elim (λ h. inl (bad_config_byte, h.0, bad_byte h.0 (placed s t) h.1.below h.1.here h.1.before)) (λ h. inr (record { placed = placed s t; bytes = h })) (first_or_none (bad_byte_at f) (byte_count f.contents))
+  by_answer a (repeated k h s t e) = inl (repeated_effect, k, repeated_id k (repeated k h s t e))
+  by_answer a (past k h s t n) = inl (past_space, k, past_end k (past k h s t n))
 
   pub fault_or_none : ((n : ℕ) × (i : ℕ) × FirstFault f n i) ⊎ Faultless f
   fault_or_none = by_answer (answer_of config_space_size f.capabilities) (ruling config_space_size f.capabilities)

@@ -1,12 +1,11 @@
 -- Exactly when a file gets which answer, in the order and the words of document 01's table: proofs/Outcomes.antt shows that an outcome always holds, and that the answer is what it says.
-use Rattle.std.specs.Prelude.{ℕ, ◌<◌, Bool, true, false, List, ◌++◌, ◌≡◌, length, get_or}
+use Rattle.std.specs.Prelude.{ℕ, ◌<◌, Bool, true, false, List, ◌++◌, ◌≡◌, length, get_or, Ok, Err}
 use Rattle.refusal.specs.Number as number
 use Rattle.address.specs.Layout.{config_space_size}
 use Rattle.address.specs.Limits.{Limits}
 use Rattle.bar.specs.declared.range.Aperture.{Aperture}
-use Rattle.capability.specs.Layout.{placed_of}
+use Rattle.capability.specs.Layout.{placed_of, repeated_at, past_at}
 use Rattle.capability.specs.Ruling.{Ruling}
-use Rattle.capability.specs.declared.layout.LayoutAnswer.TheVariants as layout_answer
 use Rattle.config.specs.ConfigByte.{byte_count, byte_bad}
 use Rattle.config.specs.declared.function.Function.{Function}
 use Rattle.declaration.specs.Answer.{accepted_with, refused_with}
@@ -101,13 +100,13 @@ bad_byte_at f i = byte_bad config_space_size f.contents (placed_of f.capabilitie
 
 -- the first fault of a function: "capabilities in order (12 before 13 for each), then config bytes (9)"
 pub data FirstFault (f : Function) : ℕ → ℕ → Type 0 where
-  repeated_id : (k : ℕ) → Ruling config_space_size f.capabilities (layout_answer.Repeated k) → FirstFault f number.repeated_effect k
-  past_end : (k : ℕ) → Ruling config_space_size f.capabilities (layout_answer.PastEnd k) → FirstFault f number.past_space k
-  bad_byte : (i : ℕ) → Ruling config_space_size f.capabilities layout_answer.Placed → i < byte_count f.contents → bad_byte_at f i ≡ true → ((k : ℕ) → k < i → bad_byte_at f k ≡ false) → FirstFault f number.bad_config_byte i
+  repeated_id : (k : ℕ) → Ruling config_space_size f.capabilities (Err (repeated_at k)) → FirstFault f number.repeated_effect k
+  past_end : (k : ℕ) → Ruling config_space_size f.capabilities (Err (past_at k)) → FirstFault f number.past_space k
+  bad_byte : (i : ℕ) → Ruling config_space_size f.capabilities (Ok tt) → i < byte_count f.contents → bad_byte_at f i ≡ true → ((k : ℕ) → k < i → bad_byte_at f k ≡ false) → FirstFault f number.bad_config_byte i
 
 -- a function without one
 pub record Faultless (f : Function) : Type 0 where
-  pub placed : Ruling config_space_size f.capabilities layout_answer.Placed
+  pub placed : Ruling config_space_size f.capabilities (Ok tt)
   pub bytes : (i : ℕ) → i < byte_count f.contents → bad_byte_at f i ≡ false
 
 -- refusals "after the whole file, for each device ascending": the first function with a fault, at its first

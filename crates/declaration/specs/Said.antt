@@ -1,11 +1,11 @@
 -- Form: what a field's body says, in numbers of their widths (document 01, "Declaration file"; "byte outside its set, automatic address not zero" are refusal 2).
-use Rattle.std.specs.Prelude.{ℕ, ◌&&◌, cond, List, leb, eqb, length, get_or}
+use Rattle.refusal.specs.declared.refusal.Refusal.{Refusal}
+use Rattle.std.specs.Prelude.{ℕ, ◌&&◌, cond, List, leb, eqb, length, get_or, Result, Ok, Err}
 use Rattle.refusal.specs.Number.{accepted, bad_form}
 use Rattle.word.specs.Number.{read_at}
 use Rattle.bar.specs.declared.memory_bar.Request.TheVariants as request
 use Rattle.capability.specs.Effect.{access_of_number}
-use Rattle.capability.specs.declared.effect.AccessAnswer.{AccessAnswer}
-use Rattle.capability.specs.declared.effect.AccessAnswer.TheVariants as access_answer
+use Rattle.capability.specs.declared.effect.EffectAccess.{EffectAccess}
 use Rattle.config.specs.declared.function.Identity.{Identity}
 use Rattle.declaration.specs.Tag.{aperture_tag, function_tag, intx_tag, bar_tag, config_byte_tag, capability_tag, effect_tag, length_allowed, capability_body}
 use Rattle.declaration.specs.declared.said.Said.{Said}
@@ -59,9 +59,9 @@ abbrev pub capability_said : List ℕ → Said
 capability_said body = said.Capability (byte_in body 0) (capability_body (length body))
 
 -- "effect id 2, offset 1, length 1, access 1 (1 read, 2 write, 3 both)"
-abbrev pub access_said : List ℕ → AccessAnswer → Said
-access_said body (access_answer.Good access) = said.Effect (read_at body 0 2) (byte_in body 2) (byte_in body 3) access
-access_said body access_answer.Bad = said.Bad
+abbrev pub access_said : List ℕ → Result EffectAccess Refusal → Said
+access_said body (Ok access) = said.Effect (read_at body 0 2) (byte_in body 2) (byte_in body 3) access
+access_said body (Err r) = said.Bad
 
 abbrev pub effect_said : List ℕ → Said
 effect_said body = access_said body (access_of_number (byte_in body 4))

@@ -5,7 +5,7 @@ ghost use Rattle.declaration.specs.Said.{aperture_said, function_said, intx_said
 
 use crate::tag;
 use bar::Request;
-use capability::{AccessAnswer, EffectAccess};
+use capability::EffectAccess;
 use config::Identity;
 
 // What a field says; Bad is refusal 2. The bytes of a capability's body and masks stay in the field's body.
@@ -183,13 +183,13 @@ fn say_effect(body: &[u8]) -> Said
     let offset = word::byte_at(body, 2);
     let length = word::byte_at(body, 3);
     match EffectAccess::new(word::byte_at(body, 4)) {
-        AccessAnswer::Good(access) => Said::Effect {
+        Ok(access) => Said::Effect {
             id,
             offset,
             length,
             access,
         },
-        AccessAnswer::Bad => Said::Bad,
+        Err(_) => Said::Bad,
     }
 }
 

@@ -10,8 +10,7 @@ use crate::so_far::{SoFar, no_mask};
 use crate::take::{Taken, accepted, refused};
 use address::config_layout::CONFIG_STANDARD_HEADER_END;
 use capability::{
-    CAPABILITY_BODY_MAX_SIZE, CAPABILITY_HEADER_SIZE, Capabilities, Capability, CapabilityAdded,
-    CapabilityAnswer, EffectAccess, EffectAdded,
+    CAPABILITY_BODY_MAX_SIZE, CAPABILITY_HEADER_SIZE, Capabilities, Capability, EffectAccess,
 };
 use config::Contents;
 
@@ -60,7 +59,7 @@ impl SoFar {
     pub(crate) fn take_capability(self, id: u8, length: usize, body: &[u8]) -> Taken
         ensures { result ≡ taken_said limits self (Said.Capability id length) body.now }
     {
-        let CapabilityAnswer::Good(capability) = Capability::new(id, length) else {
+        let Ok(capability) = Capability::new(id, length) else {
             return refused(refusal::LONG_BODY, self);
         };
         if self.count == 0 {
@@ -68,13 +67,10 @@ impl SoFar {
         }
         let mut function = self.function;
         let capabilities = function.capabilities;
-        let done = capabilities.add_capability(capability);
-        let answer = done.answer;
-        match answer {
-            CapabilityAdded::Full => refused(refusal::ABOVE_LIMIT, self),
-            CapabilityAdded::Added => {
+        match capabilities.add_capability(capability) {
+            Err(refusal) => refused(refusal.number(), self),
+            Ok(with) => {
                 let contents = bodies_with(function.contents, capabilities, length, body);
-                let with = done.state;
                 function.contents = contents;
                 function.capabilities = with;
                 let mut out = self;
@@ -95,14 +91,9 @@ impl SoFar {
         let mut function = self.function;
         let capabilities = function.capabilities;
         let mask = self.mask;
-        let done = capabilities.add_effect(&mask, id, offset, length, access);
-        let answer = done.answer;
-        match answer {
-            EffectAdded::NoCapability => refused(refusal::OUT_OF_ORDER, self),
-            EffectAdded::Full => refused(refusal::ABOVE_LIMIT, self),
-            EffectAdded::Bad => refused(refusal::BAD_EFFECT, self),
-            EffectAdded::Added => {
-                let with = done.state;
+        match capabilities.add_effect(&mask, id, offset, length, access) {
+            Err(refusal) => refused(refusal.number(), self),
+            Ok(with) => {
                 function.capabilities = with;
                 accepted(self.with_function(function))
             }

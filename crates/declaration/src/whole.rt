@@ -5,7 +5,7 @@ ghost use Rattle.declaration.specs.Whole.{byte_fault, fault_of, first_faulty};
 use crate::finished::Finished;
 use address::config_layout::CONFIG_SPACE_SIZE;
 use address::limits::FUNCTION_LIMIT;
-use capability::{LayoutAnswer, layout_capabilities};
+use capability::layout_capabilities;
 use config::{BadConfigByte, Function, check_config_bytes};
 
 // A number, and the index of the capability or config byte; 0 and 0 where there is no fault.
@@ -35,20 +35,14 @@ pub(crate) fn fault_of(function: Function) -> Fault
     ensures { result ≡ fault_of function }
 {
     let capabilities = function.capabilities;
-    let laid = layout_capabilities(CONFIG_SPACE_SIZE, capabilities);
-    let answer = laid.answer;
-    let placed = laid.placed;
-    let contents = function.contents;
-    let bytes = byte_fault(check_config_bytes(CONFIG_SPACE_SIZE, contents, placed));
-    match answer {
-        LayoutAnswer::Placed => bytes,
-        LayoutAnswer::Repeated(index) => Fault {
-            number: refusal::REPEATED_EFFECT,
-            index,
-        },
-        LayoutAnswer::PastEnd(index) => Fault {
-            number: refusal::PAST_SPACE,
-            index,
+    match layout_capabilities(CONFIG_SPACE_SIZE, capabilities) {
+        Ok(placed) => {
+            let contents = function.contents;
+            byte_fault(check_config_bytes(CONFIG_SPACE_SIZE, contents, placed))
+        }
+        Err(refused) => Fault {
+            number: refused.refusal.number(),
+            index: refused.index,
         },
     }
 }

@@ -1,5 +1,8 @@
 -- Capabilities and effects in numbers: what they declare, and what is answered.
-use Rattle.std.specs.Prelude.{ℕ, min, List, get_or}
+use Rattle.std.specs.Prelude.{Result, Ok, Err, ℕ, min, List, get_or}
+use Rattle.std.specs.Result.{result_unwrap_or}
+use Rattle.refusal.specs.Number.{accepted}
+use Rattle.refusal.specs.Refusal.{number_of, answer_number}
 use Rattle.word.specs.Table.{table}
 use Rattle.address.specs.Layout.{config_space_size}
 use Rattle.capability.specs.Size.{body_most}
@@ -8,30 +11,21 @@ use Rattle.capability.specs.Declaration.{capability}
 use Rattle.address.specs.Limits.{limits, capability_room, effect_room}
 use Rattle.capability.specs.Addition.{add_effect_of}
 use Rattle.capability.specs.Layout.{layout_of}
-use Rattle.capability.specs.Number.{layout_answer_number, effect_added_number}
-use Rattle.capability.specs.Blank.{no_placed_effect}
+use Rattle.capability.specs.Blank.{no_placed_effect, nothing_placed}
 use Rattle.capability.specs.declared.effect.EffectAccess.{EffectAccess}
 use Rattle.capability.specs.declared.effect.EffectAccess.TheVariants.{Read}
-use Rattle.capability.specs.declared.effect.AccessAnswer.{AccessAnswer}
-use Rattle.capability.specs.declared.effect.AccessAnswer.TheVariants.{Good, Bad}
 use Rattle.capability.specs.declared.effect.Effect.{Effect}
 use Rattle.capability.specs.declared.declared.Capability.{Capability}
 use Rattle.capability.specs.declared.declared.Capabilities.{Capabilities}
-use Rattle.capability.specs.declared.layout.LayoutAnswer.{LayoutAnswer}
-use Rattle.capability.specs.declared.layout.LayoutAnswer.TheVariants as layout_answer
-use Rattle.capability.specs.declared.layout.LayoutDone.{LayoutDone}
+use Rattle.capability.specs.declared.placed.Placed.{Placed}
 use Rattle.capability.specs.declared.placed.PlacedEffect.{PlacedEffect}
+use Rattle.capability.specs.declared.layout.LayoutRefusal.{LayoutRefusal}
 use Rattle.harness.specs.declared.lists.DeclaredNumbers.{DeclaredNumbers}
 use Rattle.harness.specs.declared.lists.LaidOut.{LaidOut}
 
 -- "access 1 (1 read, 2 write, 3 both)"; any other number counts as read
-abbrev pub access_or_read : AccessAnswer → EffectAccess
-access_or_read (Good a) = a
-access_or_read Bad = Read
-
--- the access that a number is taken for
 abbrev pub access_taken : ℕ → EffectAccess
-access_taken number = access_or_read (access_of_number number)
+access_taken number = result_unwrap_or (access_of_number number) Read
 
 -- the effect that the numbers are taken for
 abbrev pub effect_taken : PlacedEffect → Effect
@@ -55,15 +49,10 @@ declared_in n =
       effect_count = min n.effect_count effect_room;
     }
 
--- the capability at fault, 0 where there is none
-abbrev pub fault_index : LayoutAnswer → ℕ
-fault_index layout_answer.Placed = 0
-fault_index (layout_answer.Repeated k) = k
-fault_index (layout_answer.PastEnd k) = k
-
--- what is told of a layout: its number, the capability at fault, what is placed
-abbrev pub laid_out : LayoutDone → LaidOut
-laid_out d = record { refusal = layout_answer_number d.answer; index = fault_index d.answer; placed = d.placed }
+-- what is told of a layout: its number, the capability at fault, 0 where there is none, what is placed
+abbrev pub laid_out : Result Placed LayoutRefusal → LaidOut
+laid_out (Ok p) = record { refusal = accepted; index = 0; placed = p }
+laid_out (Err r) = record { refusal = number_of r.refusal; index = r.index; placed = nothing_placed }
 
 -- the layout of what the numbers declare
 unfoldable pub lay_out : DeclaredNumbers → LaidOut
@@ -71,4 +60,4 @@ lay_out n = laid_out (layout_of config_space_size (declared_in n))
 
 -- the effect's own capability index is not asked, it is added to the latest one
 unfoldable pub effect_number : DeclaredNumbers → List ℕ → PlacedEffect → ℕ
-effect_number n mask e = effect_added_number (add_effect_of limits mask (declared_in n) e.id e.offset e.length (access_taken e.access)).answer
+effect_number n mask e = answer_number (add_effect_of limits mask (declared_in n) e.id e.offset e.length (access_taken e.access))

@@ -4,7 +4,7 @@ ghost use Rattle.address.specs.Layout.{config_space_size};
 ghost use Rattle.address.specs.Check.{access_of};
 ghost use Rattle.address.specs.Kinds.{offset_of};
 ghost use Rattle.capability.specs.Snapshot.{snapshot_of};
-ghost use Rattle.capability.specs.View.{viewed, body_of, view_copy};
+ghost use Rattle.capability.specs.View.{view_of, view_copy};
 ghost use Rattle.harness.specs.Effects.{touched_none, touch_numbers, touch_checked, mode_number, mode_at};
 
 use address::config_layout::CONFIG_SPACE_SIZE;
@@ -109,7 +109,7 @@ pub extern "C" fn harness_view<'a>(
     power: &'a [u8],
     from_live: bool,
 ) -> ViewCopy
-    ensures { result ≡ view_copy (viewed placed index live.now power.now config_space_size) (body_of placed index live.now power.now config_space_size from_live) }
+    ensures { result ≡ view_copy (view_of placed index live.now power.now config_space_size from_live) }
 {
     view_copy(placed, index, live, power, CONFIG_SPACE_SIZE, from_live)
 }

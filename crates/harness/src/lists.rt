@@ -2,13 +2,13 @@
 ghost use Rattle.std.specs.Prelude.{◌≡◌, min};
 ghost use Rattle.capability.specs.Declaration.{capability};
 ghost use Rattle.capability.specs.Size.{body_most};
-ghost use Rattle.harness.specs.Lists.{access_taken, effect_taken, capabilities_in, effects_in, declared_in, fault_index, laid_out, lay_out, effect_number};
+ghost use Rattle.harness.specs.Lists.{access_taken, effect_taken, capabilities_in, effects_in, declared_in, laid_out, lay_out, effect_number};
 
 use address::config_layout::CONFIG_SPACE_SIZE;
 use address::limits::{CAPABILITY_LIMIT, EFFECT_LIMIT};
 use capability::{
-    AccessAnswer, CAPABILITY_BODY_MAX_SIZE, Capabilities, Capability, CapabilityAnswer, Effect,
-    EffectAccess, LayoutAnswer, LayoutDone, Placed, PlacedEffect, layout_capabilities,
+    CAPABILITY_BODY_MAX_SIZE, Capabilities, Capability, Effect, EffectAccess, LayoutRefusal,
+    Placed, PlacedEffect, layout_capabilities,
 };
 use word::at_most;
 
@@ -35,19 +35,14 @@ pub struct LaidOut {
 fn capability_of(id: u8, length: u8) -> Capability
     ensures { result ≡ capability id (min length body_most) }
 {
-    match Capability::new(id, at_most(length as usize, CAPABILITY_BODY_MAX_SIZE)) {
-        CapabilityAnswer::Good(capability) => capability,
-        CapabilityAnswer::Bad => Capability::none(),
-    }
+    let length = at_most(length as usize, CAPABILITY_BODY_MAX_SIZE);
+    Capability::new(id, length).unwrap_or(Capability::none())
 }
 
 fn access_taken(number: u8) -> EffectAccess
     ensures { result ≡ access_taken number }
 {
-    match EffectAccess::new(number) {
-        AccessAnswer::Good(access) => access,
-        AccessAnswer::Bad => EffectAccess::Read,
-    }
+    EffectAccess::new(number).unwrap_or(EffectAccess::Read)
 }
 
 fn effect_taken(effect: PlacedEffect) -> Effect
@@ -110,26 +105,20 @@ fn declared_in(declared: DeclaredNumbers) -> Capabilities
     }
 }
 
-// The index of the capability at fault, 0 where there is none.
-fn fault_index(answer: LayoutAnswer) -> usize
-    ensures { result ≡ fault_index answer }
+fn laid_out(layout: Result<Placed, LayoutRefusal>) -> LaidOut
+    ensures { result ≡ laid_out layout }
 {
-    match answer {
-        LayoutAnswer::Placed => 0,
-        LayoutAnswer::Repeated(index) => index,
-        LayoutAnswer::PastEnd(index) => index,
-    }
-}
-
-fn laid_out(done: LayoutDone) -> LaidOut
-    ensures { result ≡ laid_out done }
-{
-    let answer = done.answer;
-    let placed = done.placed;
-    LaidOut {
-        refusal: answer.number(),
-        index: fault_index(answer),
-        placed,
+    match layout {
+        Ok(placed) => LaidOut {
+            refusal: refusal::ACCEPTED,
+            index: 0,
+            placed,
+        },
+        Err(refused) => LaidOut {
+            refusal: refused.refusal.number(),
+            index: refused.index,
+            placed: Placed::none(),
+        },
     }
 }
 
@@ -148,7 +137,5 @@ pub extern "C" fn harness_effect(declared: DeclaredNumbers, mask: &[u8], effect:
 {
     let access = access_taken(effect.access);
     let state = declared_in(declared);
-    let done = state.add_effect(mask, effect.id, effect.offset, effect.length, access);
-    let answer = done.answer;
-    answer.number()
+    refusal::number(state.add_effect(mask, effect.id, effect.offset, effect.length, access))
 }

@@ -1,5 +1,6 @@
 // Checks and registers, on plain numbers.
 ghost use Rattle.std.specs.Prelude.{◌≡◌};
+ghost use Rattle.refusal.specs.Refusal.{answer_number};
 ghost use Rattle.address.specs.Layout.{config_space_size};
 ghost use Rattle.address.specs.Kinds.{slot};
 ghost use Rattle.address.specs.Check.{access_of};
@@ -8,8 +9,6 @@ ghost use Rattle.bar.specs.Register.{size_mask};
 ghost use Rattle.bar.specs.State.{shown, asks};
 ghost use Rattle.bar.specs.declared.memory_bar.Request.TheVariants.{Auto};
 ghost use Rattle.capability.specs.Declaration.{capability_of};
-ghost use Rattle.capability.specs.Number.{capability_answer_number};
-ghost use Rattle.refusal.specs.Refusal.{answer_number};
 ghost use Rattle.harness.specs.Scalar.{bar_with, asked_numbers};
 
 use address::config_layout::CONFIG_SPACE_SIZE;
@@ -102,7 +101,7 @@ pub extern "C" fn harness_bar_asks(
 // Refusal 10 of a body of this length, or 0.
 #[unsafe(no_mangle)]
 pub extern "C" fn harness_body(length: usize) -> u8
-    ensures { result ≡ capability_answer_number (capability_of 0 length) }
+    ensures { result ≡ answer_number (capability_of 0 length) }
 {
-    Capability::new(0, length).number()
+    refusal::number(Capability::new(0, length))
 }

@@ -1,16 +1,10 @@
--- `access_allows` tests the number for both first, then the one of the direction.
-use borrow.Author.Tests.{eq-eqb, ne_eqb}
-use Rattle.capability.specs.Touch.{allows}
+-- `access_allows`: a number that has no access allows neither direction.
+use mathlib.Core.Path.{◌≡◌, sym, ◌∙◌}
+use Rattle.capability.proofs.Accesses.{number_is, refused_number}
 use Rattle.capability.proofs.effect_access.access_allows.Goals as goal
 
-pub returns-then-access-eq-ACCESS_BOTH : goal.returns-then-access-eq-ACCESS_BOTH
-unfolding allows
-returns-then-access-eq-ACCESS_BOTH c = rw (eq-eqb _ _ c.if-access-eq-ACCESS_BOTH.true)
+pub returns-in-Ok : goal.returns-in-Ok
+returns-in-Ok c = c.allows.ensures ∙ rw (← number_is c.args.access c.in-Ok.access (sym c.new.ensures ∙ c.in-Ok.is))
 
-pub returns-then-write : goal.returns-then-write
-unfolding allows
-returns-then-write c = rw (ne_eqb _ _ c.if-access-eq-ACCESS_BOTH.false, c.if-write.true)
-
-pub returns-else-write : goal.returns-else-write
-unfolding allows
-returns-else-write c = rw (ne_eqb _ _ c.if-access-eq-ACCESS_BOTH.false, c.if-write.false)
+pub returns-in-Err : goal.returns-in-Err
+returns-in-Err c = sym (refused_number c.args.access _ (sym c.new.ensures ∙ c.in-Err.is) c.args.write)

@@ -2,15 +2,11 @@
 use Rattle.declaration.specs.Whole.{fault_of}
 use Rattle.declaration.proofs.whole.fault_of.Goals as goal
 
-pub returns-in-Placed : goal.returns-in-Placed
+pub returns-in-Ok : goal.returns-in-Ok
 unfolding fault_of
-returns-in-Placed c =
-    rw (c.byte_fault-bytes.ensures, c.check_config_bytes.ensures, ← c.layout_capabilities-laid.ensures, c.in-Placed.is)
+returns-in-Ok c =
+    rw (c.byte_fault.ensures, c.check_config_bytes.ensures, ← c.layout_capabilities.ensures, c.in-Ok.is)
 
-pub returns-in-Repeated : goal.returns-in-Repeated
+pub returns-in-Err : goal.returns-in-Err
 unfolding fault_of
-returns-in-Repeated c = rw (← c.layout_capabilities-laid.ensures, c.in-Repeated.is)
-
-pub returns-in-PastEnd : goal.returns-in-PastEnd
-unfolding fault_of
-returns-in-PastEnd c = rw (← c.layout_capabilities-laid.ensures, c.in-PastEnd.is)
+returns-in-Err c = rw (c.number.ensures, ← c.layout_capabilities.ensures, c.in-Err.is)

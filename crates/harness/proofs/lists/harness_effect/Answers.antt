@@ -6,4 +6,4 @@ use Rattle.harness.proofs.lists.harness_effect.Goals as goal
 pub returns : goal.returns
 unfolding effect_number
 returns c =
-    c.number.ensures ∙ rw (c.add_effect-done.ensures, c.declared_in-state.ensures, c.access_taken-access.ensures)
+    c.number.ensures ∙ rw (c.add_effect.ensures, c.declared_in-state.ensures, c.access_taken-access.ensures)

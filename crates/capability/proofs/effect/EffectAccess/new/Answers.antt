@@ -1,20 +1,19 @@
--- `EffectAccess::new` tries the three numbers.
-use borrow.Author.Tests.{eq-eqb, ne_eqb}
-use Rattle.capability.specs.Effect.{access_of_number}
+-- `EffectAccess::new` goes by the three numbers.
+use mathlib.Core.Path.{sym}
+use native.Mathlib.Omega.{arith}
+use Rattle.capability.specs.declared.effect.EffectAccess.TheVariants.{Read, Write, ReadWrite}
+use Rattle.capability.proofs.Accesses.{access_number_lem, access_unnumbered}
 use Rattle.capability.proofs.effect.EffectAccess.new.Goals as goal
 
-pub returns-then-number-eq-ACCESS_READ : goal.returns-then-number-eq-ACCESS_READ
-unfolding access_of_number
-returns-then-number-eq-ACCESS_READ c = rw (eq-eqb _ _ c.if-number-eq-ACCESS_READ.true)
+pub returns-in-1 : goal.returns-in-1
+returns-in-1 c = rw c.in-1.is (sym (access_number_lem Read))
 
-pub returns-then-number-eq-ACCESS_WRITE : goal.returns-then-number-eq-ACCESS_WRITE
-unfolding access_of_number
-returns-then-number-eq-ACCESS_WRITE c = rw (ne_eqb _ _ c.if-number-eq-ACCESS_READ.false, eq-eqb _ _ c.if-number-eq-ACCESS_WRITE.true)
+pub returns-in-2 : goal.returns-in-2
+returns-in-2 c = rw c.in-2.is (sym (access_number_lem Write))
 
-pub returns-then-number-eq-ACCESS_BOTH : goal.returns-then-number-eq-ACCESS_BOTH
-unfolding access_of_number
-returns-then-number-eq-ACCESS_BOTH c = rw (ne_eqb _ _ c.if-number-eq-ACCESS_READ.false, ne_eqb _ _ c.if-number-eq-ACCESS_WRITE.false, eq-eqb _ _ c.if-number-eq-ACCESS_BOTH.true)
+pub returns-in-3 : goal.returns-in-3
+returns-in-3 c = rw c.in-3.is (sym (access_number_lem ReadWrite))
 
-pub returns : goal.returns
-unfolding access_of_number
-returns c = rw (ne_eqb _ _ c.if-number-eq-ACCESS_READ.false, ne_eqb _ _ c.if-number-eq-ACCESS_WRITE.false, ne_eqb _ _ c.if-number-eq-ACCESS_BOTH.false)
+pub returns-in_default : goal.returns-in_default
+returns-in_default c =
+    sym (access_unnumbered c.args.number (λ e. omega arith) (λ e. omega arith) (λ e. omega arith))
