@@ -10,6 +10,7 @@ use capability::{
     CAPABILITY_BODY_MAX_SIZE, Capabilities, Capability, Effect, EffectAccess, LayoutRefusal,
     Placed, PlacedEffect, layout_capabilities,
 };
+use std::array;
 use word::at_most;
 
 // A function's capabilities in declaration order, each with its id and body length, and its effects with the index of their capability and the number of their access.
@@ -64,29 +65,13 @@ fn capabilities_in(
 ) -> [Capability; CAPABILITY_LIMIT]
     ensures { result ≡ capabilities_in ids lengths }
 {
-    let none = Capability::none();
-    let mut list = [none; CAPABILITY_LIMIT];
-    let mut k = 0;
-    while k < CAPABILITY_LIMIT {
-        let capability = capability_of(ids[k], lengths[k]);
-        list[k] = capability;
-        k += 1;
-    }
-    list
+    array::from_fn(|k| capability_of(ids[k], lengths[k]))
 }
 
 fn effects_in(effects: [PlacedEffect; EFFECT_LIMIT]) -> [Effect; EFFECT_LIMIT]
     ensures { result ≡ effects_in effects }
 {
-    let none = Effect::none();
-    let mut list = [none; EFFECT_LIMIT];
-    let mut j = 0;
-    while j < EFFECT_LIMIT {
-        let effect = effect_taken(effects[j]);
-        list[j] = effect;
-        j += 1;
-    }
-    list
+    effects.map(|effect| effect_taken(effect))
 }
 
 fn declared_in(declared: DeclaredNumbers) -> Capabilities

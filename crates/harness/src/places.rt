@@ -10,6 +10,7 @@ use address::limits::{BAR_SLOTS, FUNCTION_LIMIT};
 use bar::{Aperture, MemoryBar, Request};
 use placement::{DeclaredBars, FunctionBars, KEY_COUNT, PlacementRefusal, resolve_bar_addresses};
 use refusal::ACCEPTED;
+use std::array;
 
 // The aperture, and the BARs of `count` functions: place `i * 6 + slot` of an array is that slot of function i, and a size of 0 is no BAR.
 #[repr(C)]
@@ -70,15 +71,7 @@ fn bars_in(request: PlaceNumbers, function: usize) -> [MemoryBar; BAR_SLOTS]
     requires { function < function_room }
     ensures { result ≡ slots_in request function }
 {
-    let none = MemoryBar::none();
-    let mut bars = [none; BAR_SLOTS];
-    let mut slot = 0;
-    while slot < BAR_SLOTS {
-        let bar = bar_in(request, function, slot);
-        bars[slot] = bar;
-        slot += 1;
-    }
-    bars
+    array::from_fn(|slot| bar_in(request, function, slot))
 }
 
 fn function_in(request: PlaceNumbers, function: usize) -> FunctionBars
@@ -96,15 +89,7 @@ fn function_in(request: PlaceNumbers, function: usize) -> FunctionBars
 fn functions_in(request: PlaceNumbers) -> [FunctionBars; FUNCTION_LIMIT]
     ensures { result ≡ functions_in request }
 {
-    let first = function_in(request, 0);
-    let mut functions = [first; FUNCTION_LIMIT];
-    let mut i = 0;
-    while i < FUNCTION_LIMIT {
-        let function = function_in(request, i);
-        functions[i] = function;
-        i += 1;
-    }
-    functions
+    array::from_fn(|i| function_in(request, i))
 }
 
 fn placed_out(placement: Result<[u64; KEY_COUNT], PlacementRefusal>) -> PlacedOut

@@ -1,42 +1,14 @@
-use mathlib.Core.Path.{◌≡◌, ◌∙◌}
-use native.Mathlib.Omega.{arith}
-use Rattle.capability.specs.Effect.{no_effect}
+use borrow.Author.Rules.{rules}
+use lib.ListN.{get_or}
 use Rattle.address.specs.Limits.{effect_room}
-use Rattle.word.proofs.Tables.{blank_filled, filled_more, filled_all}
-use Rattle.harness.specs.Lists.{effects_in}
+use Rattle.capability.specs.Blank.{no_placed_effect}
+use Rattle.capability.specs.Effect.{no_effect}
+use Rattle.word.proofs.Tables.{table_by}
+use Rattle.harness.specs.Lists.{effect_taken, effects_in}
 use Rattle.harness.proofs.lists.effects_in.Goals as goal
-use Rattle.harness.proofs.lists.effects_in.Invariants.{place}
-
-pub loop-j-init : goal.loop-j-init
-loop-j-init c = (omega arith, rw c.none-none.ensures (blank_filled effect_room (place c.args.effects) no_effect))
-
-pub offset_bounds-effects-j : goal.offset_bounds-effects-j
-offset_bounds-effects-j c = omega arith
-
-pub bounds-effects-j : goal.bounds-effects-j
-bounds-effects-j c = omega arith
-
-pub offset_bounds-list-j : goal.offset_bounds-list-j
-offset_bounds-list-j c = omega arith
-
-pub bounds-list-j : goal.bounds-list-j
-bounds-list-j c = omega arith
-
-pub overflow_add-j : goal.overflow_add-j
-overflow_add-j c = omega arith
-
-pub loop-j-smaller : goal.loop-j-smaller
-loop-j-smaller c = omega arith
-
-pub loop-j-preserved : goal.loop-j-preserved
-loop-j-preserved c =
-    let l = c.loop-j in
-    let effects = c.args.effects in
-    (omega arith, rw l.invariant.1 (filled_more effect_room (place effects) no_effect l.j c.effect_taken-effect.result (omega arith) c.effect_taken-effect.ensures))
 
 pub returns : goal.returns
 unfolding effects_in
 returns c =
-    let l = c.loop-j in
-    let e : l.j ≡ effect_room = omega arith in
-    l.invariant.1 ∙ rw e (filled_all effect_room (place c.args.effects) no_effect)
+    let h = c.map.ensures.items in
+    table_by effect_room (λ j. effect_taken (get_or c.args.effects j no_placed_effect)) no_effect c.map.result h.long (λ j l. let e = h.at j no_placed_effect no_effect l in search rules)
