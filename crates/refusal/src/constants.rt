@@ -1,4 +1,4 @@
-// TEMPORARY
+// The numbers as constants.
 pub const FIELD_CUT: u8 = 1;
 
 pub const BAD_FORM: u8 = 2;
