@@ -88,8 +88,7 @@ fn hear<W: Write>(
 ) -> io::Result<Talk> {
     let mut bus = talk.bus;
     let mut held = talk.held;
-    let mut i = 0;
-    while i < input.len() {
+    for i in 0..input.len() {
         let byte = input[i];
         if byte == b'\n' {
             let after = end_line(output, line, held, bus)?;
@@ -98,7 +97,6 @@ fn hear<W: Write>(
         } else {
             held = keep(output, line, held, byte)?;
         }
-        i += 1;
     }
     Ok(Talk {
         bus,

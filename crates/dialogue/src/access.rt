@@ -3,7 +3,7 @@ ghost use Rattle.std.specs.Prelude.{◌≡◌, ◌++◌, ◌+◌, ◌≤◌, len
 ghost use Rattle.dialogue.specs.Access.{value_text, value_room, read_text, refused_text, refused_room, exhausted_text, exhausted_room, probing_text, probing_room, placed_text, placed_room, write_text, hit_text, hit_room, lookup_text, reset_text, access_room};
 
 use crate::effect::put_effect;
-use crate::part::{put_bytes, put_column, put_decimal, put_hex, wide, wide_index};
+use crate::part::{put_bytes, put_column, put_decimal, put_hex};
 use bus::{BusResetAnswer, BusWriteAnswer, BusWriteReply, LookupAnswer};
 use config::{ReadAnswer, ReadReply};
 
@@ -25,7 +25,7 @@ fn put_refused(text: &mut [u8], at: usize, number: u8) -> usize
     ensures { (result ≤ at + refused_room) × (take result text.new ≡ take at text.old ++ refused_text number) }
 {
     let word = put_bytes(text, at, b"refused ");
-    let number = put_decimal(text, word, wide(number));
+    let number = put_decimal(text, word, u64::from(number));
     put_bytes(text, number, b"\n")
 }
 
@@ -35,8 +35,8 @@ fn put_exhausted(text: &mut [u8], at: usize, device: u8) -> usize
     ensures { (result ≤ at + exhausted_room) × (take result text.new ≡ take at text.old ++ exhausted_text device) }
 {
     let word = put_bytes(text, at, b"refused ");
-    let number = put_decimal(text, word, wide(refusal::REVISION_EXHAUSTED));
-    let device = put_column(text, number, 2, wide(device));
+    let number = put_decimal(text, word, u64::from(refusal::REVISION_EXHAUSTED));
+    let device = put_column(text, number, 2, u64::from(device));
     put_bytes(text, device, b"\n")
 }
 
@@ -61,7 +61,7 @@ fn put_probing(text: &mut [u8], at: usize, slot: usize) -> usize
     ensures { (result ≤ at + probing_room) × (take result text.new ≡ take at text.old ++ probing_text slot) }
 {
     let word = put_bytes(text, at, b"probing");
-    let slot = put_column(text, word, 1, wide_index(slot));
+    let slot = put_column(text, word, 1, slot as u64);
     put_bytes(text, slot, b"\n")
 }
 
@@ -71,7 +71,7 @@ fn put_placed(text: &mut [u8], at: usize, word: &[u8], slot: usize, address: u64
     ensures { (result ≤ at + (length word.now + placed_room)) × (take result text.new ≡ take at text.old ++ placed_text word.now slot address) }
 {
     let word = put_bytes(text, at, word);
-    let slot = put_column(text, word, 1, wide_index(slot));
+    let slot = put_column(text, word, 1, slot as u64);
     let address = put_column(text, slot, 8, address);
     put_bytes(text, address, b"\n")
 }
@@ -102,9 +102,9 @@ fn put_hit(text: &mut [u8], at: usize, device: u8, slot: usize, offset: u64) -> 
     ensures { (result ≤ at + hit_room) × (take result text.new ≡ take at text.old ++ hit_text device slot offset) }
 {
     let word = put_bytes(text, at, b"hit");
-    let device = put_column(text, word, 2, wide(device));
+    let device = put_column(text, word, 2, u64::from(device));
     let dot = put_bytes(text, device, b".");
-    let slot = put_hex(text, dot, 1, wide_index(slot));
+    let slot = put_hex(text, dot, 1, slot as u64);
     let offset = put_column(text, slot, 8, offset);
     put_bytes(text, offset, b"\n")
 }

@@ -3,7 +3,7 @@ ghost use Rattle.std.specs.Prelude.{◌≡◌, ◌++◌, ◌+◌, ◌*◌, ◌�
 ghost use Rattle.address.specs.Limits.{function_room};
 ghost use Rattle.dialogue.specs.Dump.{shown_or, byte_shown, bytes_text, bytes_room, row_text, row_room, rows_text, row_count, id_text, id_room, address_text, address_room, title_text, title_room, function_dump, dump_room, dump_text};
 
-use crate::part::{put_bytes, put_column, put_hex, wide, wide_index};
+use crate::part::{put_bytes, put_column, put_hex};
 use address::config_layout;
 use address::limits::FUNCTION_LIMIT;
 use bus::Bus;
@@ -19,9 +19,9 @@ fn shown_or(answer: ReadAnswer, live: u8) -> u64
 {
     match answer {
         ReadAnswer::Value(value) => value,
-        ReadAnswer::Effect(_) => wide(live),
-        ReadAnswer::BadAccess => wide(live),
-        ReadAnswer::BadEffect => wide(live),
+        ReadAnswer::Effect(_) => u64::from(live),
+        ReadAnswer::BadAccess => u64::from(live),
+        ReadAnswer::BadEffect => u64::from(live),
     }
 }
 
@@ -42,10 +42,8 @@ fn put_row_bytes(text: &mut [u8], at: usize, bus: Bus, k: usize, row: usize) -> 
     ensures { (result ≤ at + bytes_room) × (take result text.new ≡ take at text.old ++ bytes_text bus k row) }
 {
     let mut next = at;
-    let mut i = 0;
-    while i < ROW_BYTES {
+    for i in 0..ROW_BYTES {
         next = put_column(text, next, 2, byte_shown(bus, k, row * ROW_BYTES + i));
-        i += 1;
     }
     next
 }
@@ -55,7 +53,7 @@ fn put_row(text: &mut [u8], at: usize, bus: Bus, k: usize, row: usize) -> usize
     requires { (at + row_room ≤ length text.old) × (row ≤ row_count) }
     ensures { (result ≤ at + row_room) × (take result text.new ≡ take at text.old ++ row_text bus k row) }
 {
-    let offset = put_hex(text, at, 2, wide_index(row * ROW_BYTES));
+    let offset = put_hex(text, at, 2, (row * ROW_BYTES) as u64);
     let colon = put_bytes(text, offset, b":");
     let bytes = put_row_bytes(text, colon, bus, k, row);
     put_bytes(text, bytes, b"\n")
@@ -66,10 +64,8 @@ fn put_rows(text: &mut [u8], at: usize, bus: Bus, k: usize) -> usize
     ensures { (result ≤ at + row_count * row_room) × (take result text.new ≡ take at text.old ++ rows_text bus k) }
 {
     let mut next = at;
-    let mut row = 0;
-    while row < ROWS {
+    for row in 0..ROWS {
         next = put_row(text, next, bus, k, row);
-        row += 1;
     }
     next
 }
@@ -112,7 +108,7 @@ fn put_address(text: &mut [u8], at: usize, device: u8) -> usize
     ensures { (result ≤ at + address_room) × (take result text.new ≡ take at text.old ++ address_text device) }
 {
     let first = put_bytes(text, at, b"00:");
-    let device = put_hex(text, first, 2, wide(device));
+    let device = put_hex(text, first, 2, u64::from(device));
     put_bytes(text, device, b".0")
 }
 
@@ -147,10 +143,8 @@ pub(crate) fn put_dump(text: &mut [u8], at: usize, bus: Bus) -> usize
 {
     let count = word::at_most(bus.count, FUNCTION_LIMIT);
     let mut next = at;
-    let mut k = 0;
-    while k < count {
+    for k in 0..count {
         next = put_function_dump(text, next, bus, k);
-        k += 1;
     }
     next
 }

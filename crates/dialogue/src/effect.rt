@@ -2,7 +2,7 @@
 ghost use Rattle.std.specs.Prelude.{◌≡◌, ◌++◌, ◌+◌, ◌≤◌, length, take};
 ghost use Rattle.dialogue.specs.Effect.{body_bytes, body_text, body_column, body_room, region_text, region_room, effect_text, effect_room};
 
-use crate::part::{put_bytes, put_column, put_hex, wide, wide_word};
+use crate::part::{put_bytes, put_column, put_hex};
 use capability::{CAPABILITY_BODY_MAX_SIZE, EffectHit, PlacedEffect, Snapshot};
 
 // The bytes of a body.
@@ -13,10 +13,8 @@ fn put_body_bytes(text: &mut [u8], at: usize, body: Snapshot) -> usize
     let bytes = body.bytes;
     let count = word::at_most(body.length as usize, CAPABILITY_BODY_MAX_SIZE);
     let mut next = at;
-    let mut k = 0;
-    while k < count {
-        next = put_hex(text, next, 2, wide(bytes[k]));
-        k += 1;
+    for k in 0..count {
+        next = put_hex(text, next, 2, u64::from(bytes[k]));
     }
     next
 }
@@ -46,10 +44,10 @@ fn put_region(text: &mut [u8], at: usize, region: PlacedEffect) -> usize
     requires { at + region_room ≤ length text.old }
     ensures { (result ≤ at + region_room) × (take result text.new ≡ take at text.old ++ region_text region) }
 {
-    let id = put_column(text, at, 4, wide_word(region.id));
-    let offset = put_column(text, id, 2, wide(region.offset));
-    let length = put_column(text, offset, 2, wide(region.length));
-    put_column(text, length, 1, wide(region.access))
+    let id = put_column(text, at, 4, u64::from(region.id));
+    let offset = put_column(text, id, 2, u64::from(region.offset));
+    let length = put_column(text, offset, 2, u64::from(region.length));
+    put_column(text, length, 1, u64::from(region.access))
 }
 
 pub(crate) fn put_effect(text: &mut [u8], at: usize, hit: EffectHit, body: Snapshot) -> usize
@@ -57,10 +55,10 @@ pub(crate) fn put_effect(text: &mut [u8], at: usize, hit: EffectHit, body: Snaps
     ensures { (result ≤ at + effect_room) × (take result text.new ≡ take at text.old ++ effect_text hit body) }
 {
     let word = put_bytes(text, at, b"effect");
-    let id = put_column(text, word, 2, wide(hit.capability_id));
+    let id = put_column(text, word, 2, u64::from(hit.capability_id));
     let region = put_region(text, id, hit.region);
-    let offset = put_column(text, region, 2, wide_word(hit.offset));
+    let offset = put_column(text, region, 2, u64::from(hit.offset));
     let body = put_body_column(text, offset, body);
-    let inside = put_column(text, body, 2, wide_word(hit.region_offset));
+    let inside = put_column(text, body, 2, u64::from(hit.region_offset));
     put_bytes(text, inside, b"\n")
 }

@@ -3,24 +3,6 @@ ghost use Rattle.std.specs.Prelude.{◌≡◌, ◌++◌, ◌+◌, ◌≤◌, len
 ghost use Rattle.text.specs.Line.{column};
 ghost use Rattle.text.specs.Numeral.{hex_of, decimal_room, decimal_of};
 
-pub(crate) fn wide(x: u8) -> u64
-    ensures { result ≡ x }
-{
-    x as u64
-}
-
-pub(crate) fn wide_index(x: usize) -> u64
-    ensures { result ≡ x }
-{
-    x as u64
-}
-
-pub(crate) fn wide_word(x: u16) -> u64
-    ensures { result ≡ x }
-{
-    x as u64
-}
-
 pub(crate) fn put_bytes(text: &mut [u8], at: usize, part: &[u8]) -> usize
     requires { at + length part.now ≤ length text.old }
     ensures { (result ≤ at + length part.now) × (take result text.new ≡ take at text.old ++ part.now) }

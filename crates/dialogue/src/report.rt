@@ -4,7 +4,7 @@ ghost use Rattle.address.specs.Layout.{bar_count};
 ghost use Rattle.address.specs.Limits.{capability_room};
 ghost use Rattle.dialogue.specs.Report.{pair_text, pair_room, ids_text, ids_room, class_text, class_room, function_line, function_line_room, slot_text, slot_room, slots_text, listed_text, listed_room, list_text, present_text, report_text, report_room, counted_text, revision_text, revision_room};
 
-use crate::part::{put_bytes, put_column, put_decimal, put_hex, wide, wide_index, wide_word};
+use crate::part::{put_bytes, put_column, put_decimal, put_hex};
 use address::limits::{BAR_SLOTS, CAPABILITY_LIMIT, FUNCTION_LIMIT};
 use bus::Bus;
 use config::Identity;
@@ -15,9 +15,9 @@ fn put_pair(text: &mut [u8], at: usize, vendor: u16, id: u16) -> usize
     requires { at + pair_room ≤ length text.old }
     ensures { (result ≤ at + pair_room) × (take result text.new ≡ take at text.old ++ pair_text vendor id) }
 {
-    let vendor = put_column(text, at, 4, wide_word(vendor));
+    let vendor = put_column(text, at, 4, u64::from(vendor));
     let colon = put_bytes(text, vendor, b":");
-    put_hex(text, colon, 4, wide_word(id))
+    put_hex(text, colon, 4, u64::from(id))
 }
 
 // The device and its ids.
@@ -26,7 +26,7 @@ fn put_ids(text: &mut [u8], at: usize, device: usize, identity: Identity) -> usi
     ensures { (result ≤ at + ids_room) × (take result text.new ≡ take at text.old ++ ids_text device identity) }
 {
     let word = put_bytes(text, at, b"function");
-    let device = put_column(text, word, 2, wide_index(device));
+    let device = put_column(text, word, 2, device as u64);
     let ids = put_pair(text, device, identity.vendor, identity.device);
     put_pair(text, ids, identity.subsystem_vendor, identity.subsystem)
 }
@@ -37,9 +37,9 @@ fn put_class(text: &mut [u8], at: usize, identity: Identity) -> usize
     ensures { (result ≤ at + class_room) × (take result text.new ≡ take at text.old ++ class_text identity) }
 {
     let word = put_bytes(text, at, b" class");
-    let base = put_column(text, word, 2, wide(identity.base_class));
-    let sub = put_hex(text, base, 2, wide(identity.subclass));
-    put_hex(text, sub, 2, wide(identity.programming_interface))
+    let base = put_column(text, word, 2, u64::from(identity.base_class));
+    let sub = put_hex(text, base, 2, u64::from(identity.subclass));
+    put_hex(text, sub, 2, u64::from(identity.programming_interface))
 }
 
 // The line of a function.
@@ -49,10 +49,10 @@ fn put_function(text: &mut [u8], at: usize, device: usize, identity: Identity, p
 {
     let ids = put_ids(text, at, device, identity);
     let rev = put_bytes(text, ids, b" rev");
-    let revision = put_column(text, rev, 2, wide(identity.revision));
+    let revision = put_column(text, rev, 2, u64::from(identity.revision));
     let class = put_class(text, revision, identity);
     let word = put_bytes(text, class, b" pin");
-    let pin = put_column(text, word, 1, wide(pin));
+    let pin = put_column(text, word, 1, u64::from(pin));
     put_bytes(text, pin, b"\n")
 }
 
@@ -65,7 +65,7 @@ fn put_slot(text: &mut [u8], at: usize, slot: usize, report: SlotReport) -> usiz
         return at;
     }
     let word = put_bytes(text, at, b"bar");
-    let slot = put_column(text, word, 1, wide_index(slot));
+    let slot = put_column(text, word, 1, slot as u64);
     let address = put_column(text, slot, 8, report.address);
     let size = put_column(text, address, 9, report.size);
     put_bytes(text, size, b"\n")
@@ -76,10 +76,8 @@ fn put_slots(text: &mut [u8], at: usize, report: Report) -> usize
     ensures { (result ≤ at + bar_count * slot_room) × (take result text.new ≡ take at text.old ++ slots_text report) }
 {
     let mut next = at;
-    let mut i = 0;
-    while i < BAR_SLOTS {
+    for i in 0..BAR_SLOTS {
         next = put_slot(text, next, i, report.slots[i]);
-        i += 1;
     }
     next
 }
@@ -90,8 +88,8 @@ fn put_listed(text: &mut [u8], at: usize, listed: Listed) -> usize
     ensures { (result ≤ at + listed_room) × (take result text.new ≡ take at text.old ++ listed_text listed) }
 {
     let word = put_bytes(text, at, b"cap");
-    let offset = put_column(text, word, 2, wide(listed.offset));
-    let id = put_column(text, offset, 2, wide(listed.id));
+    let offset = put_column(text, word, 2, u64::from(listed.offset));
+    let id = put_column(text, offset, 2, u64::from(listed.id));
     put_bytes(text, id, b"\n")
 }
 
@@ -101,10 +99,8 @@ fn put_list(text: &mut [u8], at: usize, report: Report) -> usize
 {
     let count = word::at_most(report.list_count, CAPABILITY_LIMIT);
     let mut next = at;
-    let mut k = 0;
-    while k < count {
+    for k in 0..count {
         next = put_listed(text, next, report.list[k]);
-        k += 1;
     }
     next
 }

@@ -48,11 +48,9 @@ fn bar_in(record: &[u8], function: usize, slot: usize) -> MemoryBar {
 fn bars_in(record: &[u8], function: usize) -> [MemoryBar; BAR_SLOTS] {
     let none = MemoryBar::none();
     let mut bars = [none; BAR_SLOTS];
-    let mut slot = 0;
-    while slot < BAR_SLOTS {
+    for slot in 0..BAR_SLOTS {
         let bar = bar_in(record, function, slot);
         bars[slot] = bar;
-        slot += 1;
     }
     bars
 }
@@ -79,11 +77,9 @@ fn function_in(record: &[u8], function: usize) -> FunctionBars {
 pub fn declared(record: &[u8]) -> DeclaredBars {
     let first = function_in(record, 0);
     let mut functions = [first; FUNCTION_LIMIT];
-    let mut i = 0;
-    while i < FUNCTION_LIMIT {
+    for i in 0..FUNCTION_LIMIT {
         let function = function_in(record, i);
         functions[i] = function;
-        i += 1;
     }
     DeclaredBars {
         count: FUNCTION_LIMIT,

@@ -6,18 +6,6 @@ use crate::numeral::{put_bytes, put_decimal, put_hex};
 use bar::Aperture;
 use declaration::Place;
 
-fn wide(x: u8) -> u64
-    ensures { result ≡ x }
-{
-    x as u64
-}
-
-fn wide_index(x: usize) -> u64
-    ensures { result ≡ x }
-{
-    x as u64
-}
-
 // A blank and hex digits.
 pub(crate) fn put_column(text: &mut [u8], at: usize, count: usize, value: u64) -> usize
     requires { at + (1 + count) ≤ length text.old }
@@ -42,7 +30,7 @@ fn put_device(text: &mut [u8], at: usize, device: u8) -> usize
     requires { at + 3 ≤ length text.old }
     ensures { (result ≡ at + 3) × (take result text.new ≡ take at text.old ++ device_text device) }
 {
-    let device = put_hex(text, at, 2, wide(device));
+    let device = put_hex(text, at, 2, u64::from(device));
     put_bytes(text, device, b".")
 }
 
@@ -58,7 +46,7 @@ pub(crate) fn put_bar(
     ensures { (result ≡ at + bar_length) × (take result text.new ≡ take at text.old ++ bar_line device slot address size) }
 {
     let device = put_device(text, at, device);
-    let slot = put_hex(text, device, 1, wide_index(slot));
+    let slot = put_hex(text, device, 1, slot as u64);
     let address = put_column(text, slot, 8, address);
     let size = put_column(text, address, 9, size);
     put_bytes(text, size, b"\n")
@@ -69,7 +57,7 @@ fn put_index(text: &mut [u8], at: usize, device: u8, index: usize) -> usize
     ensures { (result ≤ at + place_room) × (take result text.new ≡ take at text.old ++ place_text (Place.Index device index)) }
 {
     let device = put_device(text, at, device);
-    put_decimal(text, device, wide_index(index))
+    put_decimal(text, device, index as u64)
 }
 
 fn put_place(text: &mut [u8], at: usize, place: Place) -> usize
@@ -77,7 +65,7 @@ fn put_place(text: &mut [u8], at: usize, place: Place) -> usize
     ensures { (result ≤ at + place_room) × (take result text.new ≡ take at text.old ++ place_text place) }
 {
     match place {
-        Place::Offset(offset) => put_decimal(text, at, wide_index(offset)),
+        Place::Offset(offset) => put_decimal(text, at, offset as u64),
         Place::Index { device, index } => put_index(text, at, device, index),
     }
 }
@@ -87,7 +75,7 @@ pub(crate) fn put_refused(text: &mut [u8], number: u8, place: Place) -> usize
     ensures { (result ≤ refused_room) × (take result text.new ≡ refused_line number place) }
 {
     let word = put_bytes(text, 0, b"refused ");
-    let number = put_decimal(text, word, wide(number));
+    let number = put_decimal(text, word, u64::from(number));
     let blank = put_bytes(text, number, b" ");
     let place = put_place(text, blank, place);
     put_bytes(text, place, b"\n")

@@ -35,10 +35,8 @@ fn put_lines(text: &mut [u8], at: usize, shown: Shown) -> usize
     ensures { (result ≤ at + key_count * bar_length) × (take result text.new ≡ take at text.old ++ lines_below shown key_count) }
 {
     let mut next = at;
-    let mut key = 0;
-    while key < KEY_COUNT {
+    for key in 0..KEY_COUNT {
         next = put_key(text, next, shown, key);
-        key += 1;
     }
     next
 }

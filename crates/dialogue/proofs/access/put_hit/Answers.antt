@@ -18,4 +18,4 @@ returns c =
     let p5 = c.put_column-device.ensures in
     let p6 = c.put_bytes-word.ensures in
     let a = c.args in
-    (search rules, rw (p1.1, p2.1, p3.1, p4.1, p5.1, p6.1, c.wide_index.ensures, c.wide.ensures) (joined (take a.at a.text.now) (hit_word) (column 2 a.device ∷ dot ∷ hex_of 1 a.slot ∷ column 8 a.offset ∷ ended ∷ [])))
+    (search rules, rw (p1.1, p2.1, p3.1, p4.1, p5.1, p6.1, c.from.ensures) (joined (take a.at a.text.now) (hit_word) (column 2 a.device ∷ dot ∷ hex_of 1 a.slot ∷ column 8 a.offset ∷ ended ∷ [])))

@@ -15,4 +15,4 @@ returns c =
     let p3 = c.put_column-slot.ensures in
     let p4 = c.put_bytes-word.ensures in
     let a = c.args in
-    (search rules, rw (p1.1, p2.1, p3.1, p4.1, c.wide_index.ensures) (joined (take a.at a.text.now) a.word.now (column 1 a.slot ∷ column 8 a.address ∷ ended ∷ [])))
+    (search rules, rw (p1.1, p2.1, p3.1, p4.1) (joined (take a.at a.text.now) a.word.now (column 1 a.slot ∷ column 8 a.address ∷ ended ∷ [])))

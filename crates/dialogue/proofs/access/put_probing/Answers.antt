@@ -14,4 +14,4 @@ returns c =
     let p2 = c.put_column-slot.ensures in
     let p3 = c.put_bytes-word.ensures in
     let a = c.args in
-    (search rules, rw (p1.1, p2.1, p3.1, c.wide_index.ensures) (joined (take a.at a.text.now) (probing_word) (column 1 a.slot ∷ ended ∷ [])))
+    (search rules, rw (p1.1, p2.1, p3.1) (joined (take a.at a.text.now) (probing_word) (column 1 a.slot ∷ ended ∷ [])))

@@ -15,4 +15,4 @@ returns c =
     let p2 = c.put_decimal-number.ensures in
     let p3 = c.put_bytes-word.ensures in
     let a = c.args in
-    (search rules, rw (p1.1, p2.1, p3.1, c.wide.ensures) (joined (take a.at a.text.now) (refused_word) (decimal_of a.number ∷ ended ∷ [])))
+    (search rules, rw (p1.1, p2.1, p3.1, c.from.ensures) (joined (take a.at a.text.now) (refused_word) (decimal_of a.number ∷ ended ∷ [])))

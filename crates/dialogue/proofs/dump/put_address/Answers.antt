@@ -14,4 +14,4 @@ returns c =
     let p2 = c.put_hex-device.ensures in
     let p3 = c.put_bytes-first.ensures in
     let a = c.args in
-    (search rules, rw (p1.1, p2.1, p3.1, c.wide.ensures) (joined (take a.at a.text.now) (bus_word) (hex_of 2 a.device ∷ function_zero ∷ [])))
+    (search rules, rw (p1.1, p2.1, p3.1, c.from.ensures) (joined (take a.at a.text.now) (bus_word) (hex_of 2 a.device ∷ function_zero ∷ [])))

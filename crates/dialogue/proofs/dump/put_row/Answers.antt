@@ -18,4 +18,4 @@ returns c =
     let p3 = c.put_bytes-colon.ensures in
     let p4 = c.put_hex-offset.ensures in
     let a = c.args in
-    (search rules, rw (p1.1, p2.1, p3.1, p4.1, c.wide_index.ensures) (joined (take a.at a.text.now) (hex_of 2 (a.row * row_bytes)) (colon ∷ bytes_text a.bus a.k a.row ∷ ended ∷ [])))
+    (search rules, rw (p1.1, p2.1, p3.1, p4.1) (joined (take a.at a.text.now) (hex_of 2 (a.row * row_bytes)) (colon ∷ bytes_text a.bus a.k a.row ∷ ended ∷ [])))

@@ -13,29 +13,20 @@ overflow_cast-body c = omega arith
 pub loop-k-init : goal.loop-k-init
 loop-k-init c =
     let a = c.args in
-    (omega arith, omega arith, refl, sym (parts_none (take a.at a.text.now) (byte_text a.body.bytes)))
-
-pub bounds-bytes-k : goal.bounds-bytes-k
-bounds-bytes-k c = omega arith
+    (omega arith, refl, sym (parts_none (take a.at a.text.now) (byte_text a.body.bytes)))
 
 pub put_hex-next-requires : goal.put_hex-next-requires
 put_hex-next-requires c = omega arith
-
-pub overflow_add-k : goal.overflow_add-k
-overflow_add-k c = omega arith
-
-pub loop-k-smaller : goal.loop-k-smaller
-loop-k-smaller c = omega arith
 
 pub loop-k-preserved : goal.loop-k-preserved
 loop-k-preserved c =
     let a = c.args in
     let l = c.loop-k in
     let k = c.put_hex-next.ensures in
-    (omega arith, omega (arith, k.0), c.text-1.given ∙ l.invariant.2, rw (k.1, l.invariant.3, c.wide.ensures) (parts_more (take a.at a.text.now) (byte_text a.body.bytes) l.k))
+    (omega (arith, k.0), c.text-1.given ∙ l.invariant.1, rw (k.1, l.invariant.2, c.from.ensures) (parts_more (take a.at a.text.now) (byte_text a.body.bytes) l.k))
 
 pub shape_of-text : goal.shape_of-text
-shape_of-text c = c.loop-k.invariant.2
+shape_of-text c = c.loop-k.invariant.1
 
 pub returns : goal.returns
 unfolding body_bytes
@@ -43,4 +34,4 @@ returns c =
     let a = c.args in
     let l = c.loop-k in
     let e : l.k ≡ min a.body.length body_most = omega arith in
-    (omega arith, rw e at l.invariant.3)
+    (omega arith, rw e at l.invariant.2)

@@ -8,7 +8,4 @@ use Rattle.dialogue.specs.Effect.{byte_text}
 use Rattle.dialogue.proofs.effect.put_body_bytes.Given as goal
 
 abbrev pub invariant-loop-k : goal.invariant-loop-k
-invariant-loop-k l = (l.k ≤ l.count) × (l.next ≤ l.at + l.k * 2) × (length l.text ≡ length l.initial.text) × (take l.next l.text ≡ take l.at l.initial.text ++ parts_below (byte_text l.bytes) l.k)
-
-abbrev pub decreases-loop-k : goal.decreases-loop-k
-decreases-loop-k l = l.count - l.k
+invariant-loop-k l = (l.next ≤ l.at + l.k * 2) × (length l.text ≡ length l.initial.text) × (take l.next l.text ≡ take l.at l.initial.text ++ parts_below (byte_text l.bytes) l.k)

@@ -18,4 +18,4 @@ returns c =
     let p6 = c.put_column-id.ensures in
     let p7 = c.put_bytes-word.ensures in
     let a = c.args in
-    (search rules, rw (p1.1, p2.1, p3.1, p4.1, p5.1, p6.1, p7.1, c.wide_word-2.ensures, c.wide_word.ensures, c.wide.ensures) (joined (take a.at a.text.now) (effect_word) (column 2 a.hit.capability_id ∷ region_text a.hit.region ∷ column 2 a.hit.offset ∷ body_column a.body ∷ column 2 a.hit.region_offset ∷ ended ∷ [])))
+    (search rules, rw (p1.1, p2.1, p3.1, p4.1, p5.1, p6.1, p7.1, c.from-3.ensures, c.from-2.ensures, c.from.ensures) (joined (take a.at a.text.now) (effect_word) (column 2 a.hit.capability_id ∷ region_text a.hit.region ∷ column 2 a.hit.offset ∷ body_column a.body ∷ column 2 a.hit.region_offset ∷ ended ∷ [])))

@@ -15,4 +15,4 @@ returns c =
     let p3 = c.put_column-offset.ensures in
     let p4 = c.put_column-id.ensures in
     let a = c.args in
-    (search rules, rw (p1.1, p2.1, p3.1, p4.1, c.wide-3.ensures, c.wide-2.ensures, c.wide.ensures, c.wide_word.ensures) (joined (take a.at a.text.now) (column 4 a.region.id) (column 2 a.region.offset ∷ column 2 a.region.length ∷ column 1 a.region.access ∷ [])))
+    (search rules, rw (p1.1, p2.1, p3.1, p4.1, c.from-4.ensures, c.from-3.ensures, c.from-2.ensures, c.from.ensures) (joined (take a.at a.text.now) (column 4 a.region.id) (column 2 a.region.offset ∷ column 2 a.region.length ∷ column 1 a.region.access ∷ [])))

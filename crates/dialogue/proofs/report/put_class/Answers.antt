@@ -16,4 +16,4 @@ returns c =
     let p3 = c.put_column-base.ensures in
     let p4 = c.put_bytes-word.ensures in
     let a = c.args in
-    (search rules, rw (p1.1, p2.1, p3.1, p4.1, c.wide-3.ensures, c.wide-2.ensures, c.wide.ensures) (joined (take a.at a.text.now) (class_word) (column 2 a.identity.base_class ∷ hex_of 2 a.identity.subclass ∷ hex_of 2 a.identity.programming_interface ∷ [])))
+    (search rules, rw (p1.1, p2.1, p3.1, p4.1, c.from-3.ensures, c.from-2.ensures, c.from.ensures) (joined (take a.at a.text.now) (class_word) (column 2 a.identity.base_class ∷ hex_of 2 a.identity.subclass ∷ hex_of 2 a.identity.programming_interface ∷ [])))

@@ -18,4 +18,4 @@ returns c =
     let p6 = c.put_bytes-rev.ensures in
     let p7 = c.put_ids-ids.ensures in
     let a = c.args in
-    (search rules, rw (p1.1, p2.1, p3.1, p4.1, p5.1, p6.1, p7.1, c.wide-2.ensures, c.wide.ensures) (joined (take a.at a.text.now) (ids_text a.device a.identity) (rev_word ∷ column 2 a.identity.revision ∷ class_text a.identity ∷ pin_word ∷ column 1 a.pin ∷ ended ∷ [])))
+    (search rules, rw (p1.1, p2.1, p3.1, p4.1, p5.1, p6.1, p7.1, c.from-2.ensures, c.from.ensures) (joined (take a.at a.text.now) (ids_text a.device a.identity) (rev_word ∷ column 2 a.identity.revision ∷ class_text a.identity ∷ pin_word ∷ column 1 a.pin ∷ ended ∷ [])))

@@ -15,4 +15,4 @@ returns c =
     let p3 = c.put_column-device.ensures in
     let p4 = c.put_bytes-word.ensures in
     let a = c.args in
-    (search rules, rw (p1.1, p2.1, p3.1, p4.1, c.wide_index.ensures) (joined (take a.at a.text.now) (function_word) (column 2 a.device ∷ pair_text a.identity.vendor a.identity.device ∷ pair_text a.identity.subsystem_vendor a.identity.subsystem ∷ [])))
+    (search rules, rw (p1.1, p2.1, p3.1, p4.1) (joined (take a.at a.text.now) (function_word) (column 2 a.device ∷ pair_text a.identity.vendor a.identity.device ∷ pair_text a.identity.subsystem_vendor a.identity.subsystem ∷ [])))

@@ -10,32 +10,20 @@ use Rattle.dialogue.proofs.report.put_list.Goals as goal
 pub loop-k-init : goal.loop-k-init
 loop-k-init c =
     let a = c.args in
-    (omega arith, omega arith, refl, sym (parts_none (take a.at a.text.now) (listed_in a.report)))
-
-pub offset_bounds-report-k : goal.offset_bounds-report-k
-offset_bounds-report-k c = omega arith
-
-pub bounds-report-k : goal.bounds-report-k
-bounds-report-k c = omega arith
+    (omega arith, refl, sym (parts_none (take a.at a.text.now) (listed_in a.report)))
 
 pub put_listed-next-requires : goal.put_listed-next-requires
 put_listed-next-requires c = omega arith
-
-pub overflow_add-k : goal.overflow_add-k
-overflow_add-k c = omega arith
-
-pub loop-k-smaller : goal.loop-k-smaller
-loop-k-smaller c = omega arith
 
 pub loop-k-preserved : goal.loop-k-preserved
 loop-k-preserved c =
     let a = c.args in
     let l = c.loop-k in
     let k = c.put_listed-next.ensures in
-    (omega arith, omega (arith, k.0), c.text-1.given ∙ l.invariant.2, rw (k.1, l.invariant.3) (parts_more (take a.at a.text.now) (listed_in a.report) l.k))
+    (omega (arith, k.0), c.text-1.given ∙ l.invariant.1, rw (k.1, l.invariant.2) (parts_more (take a.at a.text.now) (listed_in a.report) l.k))
 
 pub shape_of-text : goal.shape_of-text
-shape_of-text c = c.loop-k.invariant.2
+shape_of-text c = c.loop-k.invariant.1
 
 pub returns : goal.returns
 unfolding list_text
@@ -43,4 +31,4 @@ returns c =
     let a = c.args in
     let l = c.loop-k in
     let e : l.k ≡ min a.report.list_count capability_room = omega arith in
-    (omega arith, rw e at l.invariant.3)
+    (omega arith, rw e at l.invariant.2)

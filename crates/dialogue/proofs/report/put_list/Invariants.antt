@@ -8,7 +8,4 @@ use Rattle.dialogue.specs.Report.{listed_room, listed_in}
 use Rattle.dialogue.proofs.report.put_list.Given as goal
 
 abbrev pub invariant-loop-k : goal.invariant-loop-k
-invariant-loop-k l = (l.k ≤ l.count) × (l.next ≤ l.at + l.k * listed_room) × (length l.text ≡ length l.initial.text) × (take l.next l.text ≡ take l.at l.initial.text ++ parts_below (listed_in l.report) l.k)
-
-abbrev pub decreases-loop-k : goal.decreases-loop-k
-decreases-loop-k l = l.count - l.k
+invariant-loop-k l = (l.next ≤ l.at + l.k * listed_room) × (length l.text ≡ length l.initial.text) × (take l.next l.text ≡ take l.at l.initial.text ++ parts_below (listed_in l.report) l.k)

@@ -15,4 +15,4 @@ returns c =
     let p3 = c.put_column-offset.ensures in
     let p4 = c.put_bytes-word.ensures in
     let a = c.args in
-    (search rules, rw (p1.1, p2.1, p3.1, p4.1, c.wide-2.ensures, c.wide.ensures) (joined (take a.at a.text.now) (cap_word) (column 2 a.listed.offset ∷ column 2 a.listed.id ∷ ended ∷ [])))
+    (search rules, rw (p1.1, p2.1, p3.1, p4.1, c.from-2.ensures, c.from.ensures) (joined (take a.at a.text.now) (cap_word) (column 2 a.listed.offset ∷ column 2 a.listed.id ∷ ended ∷ [])))

@@ -15,4 +15,4 @@ returns c =
     let p2 = c.put_bytes-colon.ensures in
     let p3 = c.put_column-vendor.ensures in
     let a = c.args in
-    (search rules, rw (p1.1, p2.1, p3.1, c.wide_word-2.ensures, c.wide_word.ensures) (joined (take a.at a.text.now) (column 4 a.vendor) (colon ∷ hex_of 4 a.id ∷ [])))
+    (search rules, rw (p1.1, p2.1, p3.1, c.from-2.ensures, c.from.ensures) (joined (take a.at a.text.now) (column 4 a.vendor) (colon ∷ hex_of 4 a.id ∷ [])))

@@ -21,4 +21,4 @@ returns c =
     let p4 = c.put_column-slot.ensures in
     let p5 = c.put_bytes-word.ensures in
     let a = c.args in
-    (search rules, rw (p1.1, p2.1, p3.1, p4.1, p5.1, c.wide_index.ensures, ne_eqb _ _ c.if-report-eq0.false) (joined (take a.at a.text.now) (bar_word) (column 1 a.slot ∷ column 8 a.report.address ∷ column 9 a.report.size ∷ ended ∷ [])))
+    (search rules, rw (p1.1, p2.1, p3.1, p4.1, p5.1, ne_eqb _ _ c.if-report-eq0.false) (joined (take a.at a.text.now) (bar_word) (column 1 a.slot ∷ column 8 a.report.address ∷ column 9 a.report.size ∷ ended ∷ [])))

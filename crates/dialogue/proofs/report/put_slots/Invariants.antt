@@ -9,7 +9,4 @@ use Rattle.dialogue.specs.Report.{slot_room, slot_in}
 use Rattle.dialogue.proofs.report.put_slots.Given as goal
 
 abbrev pub invariant-loop-i : goal.invariant-loop-i
-invariant-loop-i l = (l.i ≤ bar_count) × (l.next ≤ l.at + l.i * slot_room) × (length l.text ≡ length l.initial.text) × (take l.next l.text ≡ take l.at l.initial.text ++ parts_below (slot_in l.report) l.i)
-
-abbrev pub decreases-loop-i : goal.decreases-loop-i
-decreases-loop-i l = bar_count - l.i
+invariant-loop-i l = (l.next ≤ l.at + l.i * slot_room) × (length l.text ≡ length l.initial.text) × (take l.next l.text ≡ take l.at l.initial.text ++ parts_below (slot_in l.report) l.i)

@@ -16,4 +16,4 @@ returns c =
     let address = c.put_column-address.ensures in
     let slot = c.put_hex-slot.ensures in
     let device = c.put_device-device.ensures in
-    (search rules, rw (line.1, size.1, address.1, slot.1, device.1, c.wide_index.ensures) (joined (take a.at a.text.now) (device_text a.device) (hex_of 1 a.slot ∷ column 8 a.address ∷ column 9 a.size ∷ ended ∷ [])))
+    (search rules, rw (line.1, size.1, address.1, slot.1, device.1) (joined (take a.at a.text.now) (device_text a.device) (hex_of 1 a.slot ∷ column 8 a.address ∷ column 9 a.size ∷ ended ∷ [])))

@@ -10,4 +10,4 @@ pub returns : goal.returns
 unfolding device_text
 returns c =
     let a = c.args in
-    (search rules, rw (c.put_bytes.ensures.1, c.put_hex-device.ensures.1, c.wide.ensures) (append_assoc (take a.at a.text.now) (hex_of 2 a.device) dot))
+    (search rules, rw (c.put_bytes.ensures.1, c.put_hex-device.ensures.1, c.from.ensures) (append_assoc (take a.at a.text.now) (hex_of 2 a.device) dot))

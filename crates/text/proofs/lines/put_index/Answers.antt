@@ -10,4 +10,4 @@ pub returns : goal.returns
 unfolding place_text
 returns c =
     let a = c.args in
-    (search rules, rw (c.put_decimal.ensures.1, c.put_device-device.ensures.1, c.wide_index.ensures) (append_assoc (take a.at a.text.now) (device_text a.device) (decimal_of a.index)))
+    (search rules, rw (c.put_decimal.ensures.1, c.put_device-device.ensures.1) (append_assoc (take a.at a.text.now) (device_text a.device) (decimal_of a.index)))

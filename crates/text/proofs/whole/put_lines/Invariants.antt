@@ -9,7 +9,4 @@ use Rattle.text.specs.Text.{lines_below}
 use Rattle.text.proofs.whole.put_lines.Given as goal
 
 abbrev pub invariant-loop-key : goal.invariant-loop-key
-invariant-loop-key l = (l.key ≤ key_count) × (l.next ≤ l.at + l.key * bar_length) × (length l.text ≡ length l.initial.text) × (take l.next l.text ≡ take l.at l.initial.text ++ lines_below l.shown l.key)
-
-abbrev pub decreases-loop-key : goal.decreases-loop-key
-decreases-loop-key l = key_count - l.key
+invariant-loop-key l = (l.next ≤ l.at + l.key * bar_length) × (length l.text ≡ length l.initial.text) × (take l.next l.text ≡ take l.at l.initial.text ++ lines_below l.shown l.key)
