@@ -1,19 +1,42 @@
 -- Digits that a loop writes from the last to the first, and how many a decimal number has.
-use Prim.Native.Nat.{ℕ, suc, ◌+◌, ◌-◌, ◌/◌, ◌%◌, ◌^◌, ◌<◌, ◌≤◌}
+use Prim.Native.Nat.{ℕ, zero, suc, ◌+◌, ◌-◌, ◌/◌, ◌%◌, ◌^◌, ◌<◌, ◌≤◌}
 use mathlib.Core.Bool.{Bool, true, false}
-use mathlib.Core.List.{List, ◌∷◌, ◌++◌, append-nil}
+use mathlib.Core.List.{List, [], ◌∷◌, ◌++◌, append-nil}
 use mathlib.Core.Logic.{⊎_elim}
-use mathlib.Core.Path.{◌≡◌, sym, ap, ◌∙◌}
+use mathlib.Core.Path.{◌≡◌, refl, sym, ap, ◌∙◌}
 use native.Mathlib.Nat.{pow-le-pow_right}
 use native.Mathlib.Omega.{arith}
 use borrow.Author.Tests.{lt-ltb, le-ltb}
 use lib.Dec.{ltb}
-use lib.ListN.{length, take, drop, set, length-set, take-append-drop, drop_of_length-le}
+use lib.ListN.{length, get_or, take, drop, set, length-set, take-append-drop, drop_of_length-le}
 use lib.Seq.{length-take-le, take-take, take-set-lt, drop-set-lt, drop-cons, get_or-set_same, append_snoc}
 use Rattle.io.specs.Digits.{hex_digit_ascii, last_digits, IsDigitCount}
 use Rattle.word.proofs.Tests.{below_or_not}
 use Rattle.word.proofs.Searches.{least_at}
 use Rattle.text.specs.Numeral.{hex_of, decimal_room, decimal_length}
+
+-- the digits in order
+abbrev pub hex_digits : List ℕ
+hex_digits = 48 ∷ 49 ∷ 50 ∷ 51 ∷ 52 ∷ 53 ∷ 54 ∷ 55 ∷ 56 ∷ 57 ∷ 97 ∷ 98 ∷ 99 ∷ 100 ∷ 101 ∷ 102 ∷ []
+
+pub digit_table : (d : ℕ) → d < 16 → get_or hex_digits d 0 ≡ hex_digit_ascii d
+digit_table zero h = refl
+digit_table (suc zero) h = refl
+digit_table (suc (suc zero)) h = refl
+digit_table (suc (suc (suc zero))) h = refl
+digit_table (suc (suc (suc (suc zero)))) h = refl
+digit_table (suc (suc (suc (suc (suc zero))))) h = refl
+digit_table (suc (suc (suc (suc (suc (suc zero)))))) h = refl
+digit_table (suc (suc (suc (suc (suc (suc (suc zero))))))) h = refl
+digit_table (suc (suc (suc (suc (suc (suc (suc (suc zero)))))))) h = refl
+digit_table (suc (suc (suc (suc (suc (suc (suc (suc (suc zero))))))))) h = refl
+digit_table (suc (suc (suc (suc (suc (suc (suc (suc (suc (suc zero)))))))))) h = refl
+digit_table (suc (suc (suc (suc (suc (suc (suc (suc (suc (suc (suc zero))))))))))) h = refl
+digit_table (suc (suc (suc (suc (suc (suc (suc (suc (suc (suc (suc (suc zero)))))))))))) h = refl
+digit_table (suc (suc (suc (suc (suc (suc (suc (suc (suc (suc (suc (suc (suc zero))))))))))))) h = refl
+digit_table (suc (suc (suc (suc (suc (suc (suc (suc (suc (suc (suc (suc (suc (suc zero)))))))))))))) h = refl
+digit_table (suc (suc (suc (suc (suc (suc (suc (suc (suc (suc (suc (suc (suc (suc (suc zero))))))))))))))) h = refl
+digit_table (suc (suc (suc (suc (suc (suc (suc (suc (suc (suc (suc (suc (suc (suc (suc (suc d)))))))))))))))) h = absurd (omega arith)
 
 module _ (text : List ℕ) (at end : ℕ) (room : end ≤ length text) where
   -- before the first digit nothing is written of the whole

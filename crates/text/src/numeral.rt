@@ -1,6 +1,5 @@
 // Bytes and numbers written into a lent text: each function writes from `at` on and answers where the next byte goes.
-ghost use Rattle.std.specs.Prelude.{◌≡◌, ◌++◌, ◌+◌, ◌≤◌, ◌<◌, length, take};
-ghost use Rattle.io.specs.Digits.{hex_digit_ascii, last_digits};
+ghost use Rattle.std.specs.Prelude.{◌≡◌, ◌++◌, ◌+◌, ◌≤◌, length, take};
 ghost use Rattle.text.specs.Numeral.{hex_of, decimal_room, decimal_of};
 
 pub(crate) fn put_bytes(text: &mut [u8], at: usize, part: &[u8]) -> usize
@@ -11,28 +10,18 @@ pub(crate) fn put_bytes(text: &mut [u8], at: usize, part: &[u8]) -> usize
     at + part.len()
 }
 
-fn glyph(digit: u64) -> u8
-    requires { digit < 16 }
-    ensures { result ≡ hex_digit_ascii digit }
-{
-    if digit < 10 {
-        return 48 + digit as u8;
-    }
-    87 + digit as u8
-}
+const HEX_DIGITS: [u8; 16] = *b"0123456789abcdef";
 
-// The last `count` hex digits of a number.
+// The last `count` hex digits of a number, written from the last to the first.
 pub(crate) fn put_hex(text: &mut [u8], at: usize, count: usize, value: u64) -> usize
     requires { at + count ≤ length text.old }
     ensures { (result ≡ at + count) × (take result text.new ≡ take at text.old ++ hex_of count value) }
 {
     let end = at + count;
     let mut rest = value;
-    let mut i = end;
-    while at < i {
-        i -= 1;
-        text[i] = glyph(rest % 16);
-        rest = rest / 16;
+    for done in 0..count {
+        text[end - 1 - done] = HEX_DIGITS[(rest % 16) as usize];
+        rest /= 16;
     }
     end
 }

@@ -11,17 +11,13 @@ use crate::numeral::{DECIMAL_ROOM, put_bytes, put_decimal, put_hex};
 fn has_room(length: usize, at: usize, room: usize) -> bool
     ensures { result ≡ leb (at + room) length }
 {
-    if length < room {
-        return false;
-    }
-    at <= length - room
+    length >= room && at <= length - room
 }
 
 pub fn write_bytes(text: &mut [u8], at: usize, part: &[u8]) -> usize
     ensures { Written text.old at (length part.now) part.now text.new result }
 {
-    let free = has_room(text.len(), at, part.len());
-    if free {
+    if has_room(text.len(), at, part.len()) {
         return put_bytes(text, at, part);
     }
     at
@@ -31,8 +27,7 @@ pub fn write_bytes(text: &mut [u8], at: usize, part: &[u8]) -> usize
 pub fn write_hex(text: &mut [u8], at: usize, count: usize, value: u64) -> usize
     ensures { Written text.old at count (hex_of count value) text.new result }
 {
-    let free = has_room(text.len(), at, count);
-    if free {
+    if has_room(text.len(), at, count) {
         return put_hex(text, at, count, value);
     }
     at
@@ -43,8 +38,7 @@ pub fn write_column(text: &mut [u8], at: usize, count: u8, value: u64) -> usize
     ensures { Written text.old at (1 + count) (column count value) text.new result }
 {
     let digits = count as usize;
-    let free = has_room(text.len(), at, 1 + digits);
-    if free {
+    if has_room(text.len(), at, 1 + digits) {
         return put_column(text, at, digits, value);
     }
     at
@@ -54,8 +48,7 @@ pub fn write_column(text: &mut [u8], at: usize, count: u8, value: u64) -> usize
 pub fn write_decimal(text: &mut [u8], at: usize, value: u64) -> usize
     ensures { Written text.old at decimal_room (decimal_of value) text.new result }
 {
-    let free = has_room(text.len(), at, DECIMAL_ROOM);
-    if free {
+    if has_room(text.len(), at, DECIMAL_ROOM) {
         return put_decimal(text, at, value);
     }
     at

@@ -1,47 +1,41 @@
-use Prim.Native.Nat.{◌+◌, ◌-◌}
+use Prim.Native.Nat.{◌+◌, ◌-◌, ◌%◌}
 use mathlib.Core.Path.{◌≡◌, refl, ◌∙◌}
 use native.Mathlib.Omega.{arith}
-use lib.ListN.{take, length-set}
+use lib.ListN.{take, get_or, length-set}
 use lib.Seq.{take-set-le}
 use Rattle.text.specs.Numeral.{hex_of}
-use Rattle.text.proofs.Numerals.{digits_none, digits_more, digits_all}
+use Rattle.text.proofs.Numerals.{hex_digits, digit_table, digits_none, digits_more, digits_all}
 use Rattle.text.proofs.numeral.put_hex.Goals as goal
 
-pub overflow_add-end : goal.overflow_add-end
-overflow_add-end c = omega arith
-
-pub loop-i-init : goal.loop-i-init
-loop-i-init c =
+pub loop-done-init : goal.loop-done-init
+loop-done-init c =
     let a = c.args in
-    (omega arith, omega arith, refl, c.requires, refl, refl, digits_none a.text.now a.at (a.at + a.count) c.requires a.count a.value refl)
+    let all : a.at + a.count - a.at ≡ a.count - 0 = omega arith in
+    let e : a.at + a.count - 0 ≡ a.at + a.count = omega arith in
+    (refl, c.requires, refl, refl, rw (← all, e) (digits_none a.text.now a.at (a.at + a.count) c.requires a.count a.value refl))
 
-pub overflow_sub-i : goal.overflow_sub-i
-overflow_sub-i c = omega arith
-
-pub glyph-requires : goal.glyph-requires
-glyph-requires c = omega arith
-
-pub bounds-text-i : goal.bounds-text-i
-bounds-text-i c = omega arith
-
-pub loop-i-smaller : goal.loop-i-smaller
-loop-i-smaller c = omega arith
-
-pub loop-i-preserved : goal.loop-i-preserved
-loop-i-preserved c =
+pub loop-done-preserved : goal.loop-done-preserved
+loop-done-preserved c =
     let a = c.args in
-    let l = c.loop-i in
+    let l = c.loop-done in
     let end = a.at + a.count in
-    let more = digits_more l.text a.at end (omega arith) l.i (l.i - 1) l.rest c.glyph.result (omega arith) (omega arith) (omega arith) c.glyph.ensures in
-    (omega arith, omega arith, refl, l.invariant.3, simp length-set l.invariant.4, take-set-le a.at l.text (l.i - 1) c.glyph.result (omega arith) ∙ l.invariant.5, more ∙ l.invariant.6)
+    let i = end - l.done in
+    let j = end - 1 - l.done in
+    let g = get_or hex_digits (l.rest % 16) 0 in
+    let n : i - a.at ≡ a.count - l.done = omega arith in
+    let m : j - a.at ≡ a.count - (l.done + 1) = omega arith in
+    let o : j ≡ end - (l.done + 1) = omega arith in
+    let digit = digit_table (l.rest % 16) (omega arith) in
+    let more = digits_more l.text a.at end (omega arith) i j l.rest g (omega arith) (omega arith) (omega arith) digit in
+    (refl, l.invariant.1, simp length-set l.invariant.2, take-set-le a.at l.text j g (omega arith) ∙ l.invariant.3, rw (← m, ← o) (more ∙ rw n l.invariant.4))
 
 pub shape_of-text : goal.shape_of-text
-shape_of-text c = c.loop-i.invariant.4
+shape_of-text c = c.loop-done.invariant.2
 
 pub returns : goal.returns
 returns c =
     let a = c.args in
-    let l = c.loop-i in
-    let none : l.i - a.at ≡ 0 = omega arith in
-    let e : l.i ≡ a.at = omega arith in
-    (refl, digits_all l.text a.at (a.at + a.count) (omega arith) (take a.at a.text.now) (hex_of a.count a.value) (omega arith) l.invariant.5 (rw (none, e) at l.invariant.6))
+    let l = c.loop-done in
+    let none : a.count - l.done ≡ 0 = omega arith in
+    let e : a.at + a.count - l.done ≡ a.at = omega arith in
+    (refl, digits_all l.text a.at (a.at + a.count) (omega arith) (take a.at a.text.now) (hex_of a.count a.value) (omega arith) l.invariant.3 (rw (none, e) at l.invariant.4))

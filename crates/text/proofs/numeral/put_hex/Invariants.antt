@@ -7,8 +7,5 @@ use Rattle.io.specs.Digits.{last_digits}
 use Rattle.text.specs.Numeral.{hex_of}
 use Rattle.text.proofs.numeral.put_hex.Given as goal
 
-abbrev pub invariant-loop-i : goal.invariant-loop-i
-invariant-loop-i l = (l.at ≤ l.i) × (l.i ≤ l.end) × (l.end ≡ l.at + l.count) × (l.end ≤ length l.initial.text) × (length l.text ≡ length l.initial.text) × (take l.at l.text ≡ take l.at l.initial.text) × (last_digits 16 (l.i - l.at) l.rest ++ drop l.i (take l.end l.text) ≡ hex_of l.count l.value)
-
-abbrev pub decreases-loop-i : goal.decreases-loop-i
-decreases-loop-i l = l.i - l.at
+abbrev pub invariant-loop-done : goal.invariant-loop-done
+invariant-loop-done l = (l.end ≡ l.at + l.count) × (l.end ≤ length l.initial.text) × (length l.text ≡ length l.initial.text) × (take l.at l.text ≡ take l.at l.initial.text) × (last_digits 16 (l.count - l.done) l.rest ++ drop (l.end - l.done) (take l.end l.text) ≡ hex_of l.count l.value)

@@ -1,9 +1,8 @@
 -- `put_lines` writes the line of each key after those of the keys before it.
-use Prim.Native.Nat.{◌+◌, ◌-◌, ◌*◌, ◌≤◌}
+use Prim.Native.Nat.{◌+◌, ◌*◌, ◌≤◌}
 use mathlib.Core.List.{◌++◌}
 use mathlib.Core.Path.{◌≡◌}
 use lib.ListN.{length, take}
-use Rattle.placement.specs.Keys.{key_count}
 use Rattle.text.specs.Line.{bar_length}
 use Rattle.text.specs.Text.{lines_below}
 use Rattle.text.proofs.whole.put_lines.Given as goal

@@ -1,15 +1,12 @@
--- `has_room` asks without a sum that could wrap.
-use mathlib.Core.Path.{sym}
+-- `has_room` compares with what is left, so that no sum can wrap.
+use mathlib.Core.Path.{sym, ◌∙◌}
 use native.Mathlib.Omega.{arith}
+use borrow.Author.Tests.{lt-leb}
 use Rattle.text.proofs.Rooms.{room_short, room_rest}
 use Rattle.text.proofs.written.has_room.Goals as goal
 
 pub returns-then-length-room : goal.returns-then-length-room
-returns-then-length-room c =
-    let a = c.args in
-    sym (room_short a.length a.at a.room (omega arith))
+returns-then-length-room c = room_rest c.args.length c.args.at c.args.room (omega arith)
 
-pub returns : goal.returns
-returns c =
-    let a = c.args in
-    room_rest a.length a.at a.room (omega arith)
+pub returns-else-length-room : goal.returns-else-length-room
+returns-else-length-room c = lt-leb _ _ (omega arith) ∙ sym (room_short c.args.length c.args.at c.args.room (omega arith))

@@ -6,15 +6,15 @@ use Rattle.text.proofs.Rooms.{room_there, room_not, written_there, written_not}
 use Rattle.text.proofs.written.write_column.Goals as goal
 
 pub put_column-requires : goal.put_column-requires
-put_column-requires c = room_there _ _ _ c.has_room-free.ensures c.if-free.true
+put_column-requires c = room_there _ _ _ c.has_room.ensures c.if-has_room.true
 
-pub returns-then-free : goal.returns-then-free
-returns-then-free c =
+pub returns-then-has_room : goal.returns-then-has_room
+returns-then-has_room c =
     let a = c.args in
     let put = c.put_column.ensures in
-    written_there a.text.now a.at (1 + a.count) (column a.count a.value) _ _ (room_there _ _ _ c.has_room-free.ensures c.if-free.true) (omega (arith, put.0)) put.1
+    written_there a.text.now a.at (1 + a.count) (column a.count a.value) _ _ (room_there _ _ _ c.has_room.ensures c.if-has_room.true) (omega (arith, put.0)) put.1
 
 pub returns : goal.returns
 returns c =
     let a = c.args in
-    written_not a.text.now a.at (1 + a.count) (column a.count a.value) (room_not _ _ _ c.has_room-free.ensures c.if-free.false)
+    written_not a.text.now a.at (1 + a.count) (column a.count a.value) (room_not _ _ _ c.has_room.ensures c.if-has_room.false)
