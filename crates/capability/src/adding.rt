@@ -37,13 +37,11 @@ fn overlaps_earlier(
     requires { count ≤ effect_room }
     ensures { result ≡ overlaps_earlier effects count capability offset length }
 {
-    let mut i = 0;
-    while i < count {
+    for i in 0..count {
         let overlaps = overlaps_one(effects[i], capability, offset, length);
         if overlaps {
             return true;
         }
-        i += 1;
     }
     false
 }
@@ -64,13 +62,11 @@ fn covers_writable(mask: &[u8], offset: u8, length: u8) -> bool
 {
     let start = offset as usize;
     let many = length as usize;
-    let mut i = 0;
-    while i < many {
+    for i in 0..many {
         let bits = mask_at(mask, start + i);
         if bits != 0 {
             return true;
         }
-        i += 1;
     }
     false
 }

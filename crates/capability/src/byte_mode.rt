@@ -32,13 +32,11 @@ pub fn capability_at(placed: Placed, offset: ConfigOffset) -> Option<usize>
 {
     let at = offset.value() as usize;
     let n = capability_count(placed);
-    let mut i = 0;
-    while i < n {
+    for i in 0..n {
         let held = capability_covers(placed, at, i);
         if held {
             return Some(i);
         }
-        i += 1;
     }
     None
 }

@@ -35,10 +35,8 @@ impl Capabilities {
     {
         let count = self.declared_count();
         let mut start = CONFIG_STANDARD_HEADER_END;
-        let mut i = 0;
-        while i < count {
+        for i in 0..count {
             start = next_offset(start, self.length_at(i));
-            i += 1;
         }
         start
     }

@@ -108,13 +108,11 @@ pub(crate) fn first_touched(placed: Placed, offset: usize, width: usize) -> Opti
     ensures { result ≡ first_touched placed offset width }
 {
     let n = effect_count(placed);
-    let mut i = 0;
-    while i < n {
+    for i in 0..n {
         let touched = effect_touched(placed, offset, width, i);
         if touched {
             return Some(i);
         }
-        i += 1;
     }
     None
 }

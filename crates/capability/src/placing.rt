@@ -26,8 +26,7 @@ fn place_capabilities(
 {
     let mut out = [PlacedCapability::none(); CAPABILITY_LIMIT];
     let mut start = CONFIG_STANDARD_HEADER_END;
-    let mut i = 0;
-    while i < count {
+    for i in 0..count {
         let capability = declared.list[i];
         let length = capability.length();
         out[i] = PlacedCapability {
@@ -36,7 +35,6 @@ fn place_capabilities(
             length,
         };
         start = next_offset(start, length);
-        i += 1;
     }
     out
 }
@@ -60,11 +58,9 @@ fn place_effects(effects: [Effect; EFFECT_LIMIT], count: usize) -> [PlacedEffect
     ensures { result ≡ filled effect_room count (λ j. placed_effect (get_or effects j no_effect)) no_placed_effect }
 {
     let mut out = [PlacedEffect::none(); EFFECT_LIMIT];
-    let mut i = 0;
-    while i < count {
+    for i in 0..count {
         let effect = place_effect(effects[i]);
         out[i] = effect;
-        i += 1;
     }
     out
 }

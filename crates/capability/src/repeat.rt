@@ -12,13 +12,11 @@ fn id_among(effects: [Effect; EFFECT_LIMIT], id: u16, count: usize) -> bool
     requires { count ≤ effect_room }
     ensures { result ≡ id_among effects id count }
 {
-    let mut i = 0;
-    while i < count {
+    for i in 0..count {
         let earlier = effects[i];
         if earlier.id == id {
             return true;
         }
-        i += 1;
     }
     false
 }
@@ -41,13 +39,11 @@ pub(crate) fn repeats_at(declared: Capabilities, capability: usize) -> bool
 {
     let effects = declared.effects;
     let count = declared.declared_effects();
-    let mut i = 0;
-    while i < count {
+    for i in 0..count {
         let repeated = repeats_one(effects, capability, i);
         if repeated {
             return true;
         }
-        i += 1;
     }
     false
 }

@@ -27,7 +27,7 @@ pub(crate) fn body_length(placed: Placed, i: usize) -> usize
     ensures { result ≡ body_length placed i }
 {
     let s = span_at(placed, i);
-    word::at_most(s.length as usize, CAPABILITY_BODY_MAX_SIZE)
+    (s.length as usize).min(CAPABILITY_BODY_MAX_SIZE)
 }
 
 fn blank() -> [u8; CAPABILITY_BODY_MAX_SIZE]
@@ -43,10 +43,8 @@ pub fn snapshot_of(placed: Placed, image: &[u8], i: usize) -> Snapshot
     let start = body_start(placed, i);
     let length = body_length(placed, i);
     let mut bytes = blank();
-    let mut k = 0;
-    while k < length {
+    for k in 0..length {
         bytes[k] = word::byte_at(image, start + k);
-        k += 1;
     }
     Snapshot {
         length: length as u8,
@@ -58,12 +56,10 @@ pub fn snapshot_of(placed: Placed, image: &[u8], i: usize) -> Snapshot
 pub(crate) fn copy_of(bytes: &[u8]) -> Snapshot
     ensures { result ≡ copy_of bytes.now }
 {
-    let length = word::at_most(bytes.len(), CAPABILITY_BODY_MAX_SIZE);
+    let length = bytes.len().min(CAPABILITY_BODY_MAX_SIZE);
     let mut copy = blank();
-    let mut k = 0;
-    while k < length {
+    for k in 0..length {
         copy[k] = bytes[k];
-        k += 1;
     }
     Snapshot {
         length: length as u8,

@@ -6,7 +6,4 @@ use Rattle.capability.specs.BadEffect.{covers_writable}
 use Rattle.capability.proofs.adding.covers_writable.Given as goal
 
 abbrev pub invariant-loop-i : goal.invariant-loop-i
-invariant-loop-i l = (l.i ≤ l.length) × (covers_writable l.mask l.offset l.i ≡ false)
-
-abbrev pub decreases-loop-i : goal.decreases-loop-i
-decreases-loop-i l = l.length - l.i
+invariant-loop-i l = covers_writable l.mask l.offset l.i ≡ false

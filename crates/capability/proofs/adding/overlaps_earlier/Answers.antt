@@ -6,22 +6,16 @@ use Rattle.capability.proofs.BadEffects.{earlier_none, earlier_more, earlier_her
 use Rattle.capability.proofs.adding.overlaps_earlier.Goals as goal
 
 pub loop-i-init : goal.loop-i-init
-loop-i-init c = (search rules, earlier_none _ _ _ _)
+loop-i-init c = earlier_none _ _ _ _
 
-pub offset_bounds-effects-i : goal.offset_bounds-effects-i
-offset_bounds-effects-i c = omega arith
 
-pub bounds-effects-i : goal.bounds-effects-i
-bounds-effects-i c = omega arith
 
 pub returns-then-overlaps : goal.returns-then-overlaps
 returns-then-overlaps c = sym (earlier_here _ _ c.loop-i.i _ _ _ c.loop-i-test.true (sym c.overlaps_one-overlaps.ensures ∙ c.if-overlaps.true))
 
-pub loop-i-smaller : goal.loop-i-smaller
-loop-i-smaller c = falls _ _ c.loop-i-test.true
 
 pub loop-i-preserved : goal.loop-i-preserved
-loop-i-preserved c = (search rules, earlier_more _ _ _ _ _ c.loop-i.invariant.1 (sym c.overlaps_one-overlaps.ensures ∙ c.if-overlaps.false))
+loop-i-preserved c = earlier_more _ _ _ _ _ c.loop-i.invariant (sym c.overlaps_one-overlaps.ensures ∙ c.if-overlaps.false)
 
 pub returns : goal.returns
-returns c = let e : c.loop-i.i ≡ c.args.count = omega arith in sym (rw e at c.loop-i.invariant.1)
+returns c = let e : c.loop-i.i ≡ c.args.count = omega arith in sym (rw e at c.loop-i.invariant)

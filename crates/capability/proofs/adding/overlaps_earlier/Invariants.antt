@@ -6,7 +6,4 @@ use Rattle.capability.specs.BadEffect.{overlaps_earlier}
 use Rattle.capability.proofs.adding.overlaps_earlier.Given as goal
 
 abbrev pub invariant-loop-i : goal.invariant-loop-i
-invariant-loop-i l = (l.i ≤ l.count) × (overlaps_earlier l.effects l.i l.capability l.offset l.length ≡ false)
-
-abbrev pub decreases-loop-i : goal.decreases-loop-i
-decreases-loop-i l = l.count - l.i
+invariant-loop-i l = overlaps_earlier l.effects l.i l.capability l.offset l.length ≡ false

@@ -5,28 +5,23 @@ use Rattle.capability.proofs.Modes.{holder_is, outside_nobody}
 use Rattle.capability.proofs.byte_mode.capability_at.Goals as goal
 
 pub loop-i-init : goal.loop-i-init
-loop-i-init c = (omega arith, c.capability_count-n.ensures, any_none _)
+loop-i-init c = any_none _
 
 pub returns-then-held : goal.returns-then-held
 returns-then-held c =
     let l = c.loop-i in
     rw (← c.value-at.ensures)
-    (sym (holder_is _ _ _ (omega (arith, l.invariant.1, c.loop-i-test.true)) l.invariant.2 (sym c.capability_covers-held.ensures ∙ c.if-held.true)))
+    (sym (holder_is _ _ _ (omega (arith, c.capability_count-n.ensures, c.loop-i-test.true)) l.invariant (sym c.capability_covers-held.ensures ∙ c.if-held.true)))
 
-pub overflow_add-i : goal.overflow_add-i
-overflow_add-i c = omega arith
 
-pub loop-i-smaller : goal.loop-i-smaller
-loop-i-smaller c = omega arith
 
 pub loop-i-preserved : goal.loop-i-preserved
 loop-i-preserved c =
-    let l = c.loop-i in
-    (omega arith, l.invariant.1, any_more _ _ l.invariant.2 (sym c.capability_covers-held.ensures ∙ c.if-held.false))
+    any_more _ _ c.loop-i.invariant (sym c.capability_covers-held.ensures ∙ c.if-held.false)
 
 pub returns : goal.returns
 returns c =
     let l = c.loop-i in
     let e : l.i ≡ c.capability_count-n.result = omega arith in
     rw (← c.value-at.ensures)
-    (sym (outside_nobody _ _ (any_never _ _ (rw (← l.invariant.1, ← e) l.invariant.2))))
+    (sym (outside_nobody _ _ (any_never _ _ (rw (← c.capability_count-n.ensures, ← e) l.invariant))))

@@ -9,7 +9,4 @@ use Rattle.capability.specs.Mode.{in_capability}
 use Rattle.capability.proofs.byte_mode.capability_at.Given as goal
 
 abbrev pub invariant-loop-i : goal.invariant-loop-i
-invariant-loop-i l = (l.i ≤ l.n) × (l.n ≡ length (capabilities_of l.placed)) × (any_below (in_capability l.placed l.at) l.i ≡ false)
-
-abbrev pub decreases-loop-i : goal.decreases-loop-i
-decreases-loop-i l = l.n - l.i
+invariant-loop-i l = any_below (in_capability l.placed l.at) l.i ≡ false

@@ -14,13 +14,13 @@ use Rattle.capability.proofs.layout.check_layout.Goals as goal
 use Rattle.capability.proofs.layout.check_layout.Goals.{After-length_at-body}
 
 pub loop-i-init : goal.loop-i-init
-loop-i-init c = (search rules, search rules, sym (offset_first _), below_none _)
+loop-i-init c = (search rules, sym (offset_first _), below_none _)
 
 pub returns-then-repeated : goal.returns-then-repeated
 returns-then-repeated c =
     let a = c.args in
     let l = c.loop-i in
-    sym (rule_repeated a.space a.declared l.i (omega arith) l.invariant.3 (sym c.repeats_at-repeated.ensures ∙ c.if-repeated.true))
+    sym (rule_repeated a.space a.declared l.i (omega arith) l.invariant.2 (sym c.repeats_at-repeated.ensures ∙ c.if-repeated.true))
 
 pub overflow_add-start : goal.overflow_add-start
 overflow_add-start c = omega (arith, c.declared_count-count.ensures)
@@ -29,7 +29,7 @@ pub overflow_add-start-in-loop-i : goal.overflow_add-start-in-loop-i
 overflow_add-start-in-loop-i c = omega (arith, c.declared_count-count.ensures)
 
 ends : (c : After-length_at-body) → let l = c.loop-i in l.start + header_size + c.length_at-body.result ≡ end_at (length_at c.args.declared) l.i
-ends c = rw (c.loop-i.invariant.2, c.length_at-body.ensures)
+ends c = rw (c.loop-i.invariant.1, c.length_at-body.ensures)
 
 distinct : (c : After-length_at-body) → repeats_at c.args.declared c.loop-i.i ≡ false
 distinct c = sym c.repeats_at-repeated.ensures ∙ c.if-repeated.false
@@ -38,27 +38,24 @@ pub returns-then-space-start : goal.returns-then-space-start
 returns-then-space-start c =
     let a = c.args in
     let l = c.loop-i in
-    sym (rule_past a.space a.declared l.i (omega arith) l.invariant.3 (distinct (goal.at.returns-then-space-start c).After-length_at-body) (rw (← ends (goal.at.returns-then-space-start c).After-length_at-body) c.if-space-start.true))
+    sym (rule_past a.space a.declared l.i (omega arith) l.invariant.2 (distinct (goal.at.returns-then-space-start c).After-length_at-body) (rw (← ends (goal.at.returns-then-space-start c).After-length_at-body) c.if-space-start.true))
 
 pub next_offset-start-requires : goal.next_offset-start-requires
 next_offset-start-requires c = omega (arith, c.declared_count-count.ensures)
 
-pub loop-i-smaller : goal.loop-i-smaller
-loop-i-smaller c = falls _ _ c.loop-i-test.true
 
 pub loop-i-preserved : goal.loop-i-preserved
 loop-i-preserved c =
     let d = c.args.declared in
     let l = c.loop-i in
     let e : c.next_offset-start.result ≡ next_multiple (end_at (length_at d) l.i) = c.next_offset-start.ensures ∙ ap next_multiple (ends (goal.at.loop-i-preserved c).After-length_at-body) in (
-      omega arith,
       omega (arith, c.next_offset-start.ensures, next_near (capability_end l.start c.length_at-body.result)),
       e ∙ sym (offset_next (length_at d) l.i),
-      below_more _ _ l.invariant.3 (record { distinct = distinct (goal.at.loop-i-preserved c).After-length_at-body; inside = rw (← ends (goal.at.loop-i-preserved c).After-length_at-body) c.if-space-start.false }),
+      below_more _ _ l.invariant.2 (record { distinct = distinct (goal.at.loop-i-preserved c).After-length_at-body; inside = rw (← ends (goal.at.loop-i-preserved c).After-length_at-body) c.if-space-start.false }),
     )
 
 pub returns : goal.returns
 returns c =
     let a = c.args in
     let l = c.loop-i in
-    sym (rule_placed a.space a.declared (λ j h. l.invariant.3 j (omega arith)))
+    sym (rule_placed a.space a.declared (λ j h. l.invariant.2 j (omega arith)))

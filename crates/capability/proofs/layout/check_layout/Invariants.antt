@@ -8,7 +8,4 @@ use Rattle.capability.proofs.Rulings.{Fine}
 use Rattle.capability.proofs.layout.check_layout.Given as goal
 
 abbrev pub invariant-loop-i : goal.invariant-loop-i
-invariant-loop-i l = (l.i ≤ l.count) × (l.start ≤ farthest l.i) × (l.start ≡ offset_at (length_at l.declared) l.i) × ((j : ℕ) → j < l.i → Fine l.space l.declared j)
-
-abbrev pub decreases-loop-i : goal.decreases-loop-i
-decreases-loop-i l = l.count - l.i
+invariant-loop-i l = (l.start ≤ farthest l.i) × (l.start ≡ offset_at (length_at l.declared) l.i) × ((j : ℕ) → j < l.i → Fine l.space l.declared j)

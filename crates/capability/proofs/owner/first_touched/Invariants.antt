@@ -8,7 +8,4 @@ use Rattle.capability.specs.Owner.{effects_of, touches}
 use Rattle.capability.proofs.owner.first_touched.Given as goal
 
 abbrev pub invariant-loop-i : goal.invariant-loop-i
-invariant-loop-i l = (l.i ≤ l.n) × (l.n ≡ length (effects_of l.placed)) × (any_below (touches l.placed l.offset l.width) l.i ≡ false)
-
-abbrev pub decreases-loop-i : goal.decreases-loop-i
-decreases-loop-i l = l.n - l.i
+invariant-loop-i l = any_below (touches l.placed l.offset l.width) l.i ≡ false

@@ -14,41 +14,30 @@ use Rattle.capability.proofs.placing.place_capabilities.Goals as goal
 
 pub loop-i-init : goal.loop-i-init
 unfolding table
-loop-i-init c = (search rules, search rules, sym (offset_first _), rw c.none-out.ensures (sym (filled_none capability_room _ no_placed_capability)))
+loop-i-init c = (search rules, sym (offset_first _), rw c.none-out.ensures (sym (filled_none capability_room _ no_placed_capability)))
 
-pub offset_bounds-declared-i : goal.offset_bounds-declared-i
-offset_bounds-declared-i c = omega arith
 
-pub bounds-declared-i : goal.bounds-declared-i
-bounds-declared-i c = omega arith
 
 pub offset_in-requires : goal.offset_in-requires
 offset_in-requires c =
-    rw c.loop-i.invariant.2 (c.requires.1 c.loop-i.i c.loop-i-test.true)
+    rw c.loop-i.invariant.1 (c.requires.1 c.loop-i.i c.loop-i-test.true)
 
-pub offset_bounds-out-i : goal.offset_bounds-out-i
-offset_bounds-out-i c = omega arith
 
-pub bounds-out-i : goal.bounds-out-i
-bounds-out-i c = omega arith
 
 pub next_offset-start-requires : goal.next_offset-start-requires
 next_offset-start-requires c = omega arith
 
-pub loop-i-smaller : goal.loop-i-smaller
-loop-i-smaller c = falls _ _ c.loop-i-test.true
 
 pub loop-i-preserved : goal.loop-i-preserved
 loop-i-preserved c =
     let d = c.args.declared in
     let l = c.loop-i in
     let m = c.length-length in
-    let e : capability_end l.start m.result ≡ end_at (length_at d) l.i = rw (l.invariant.2, m.ensures) in (
-      search rules,
+    let e : capability_end l.start m.result ≡ end_at (length_at d) l.i = rw (l.invariant.1, m.ensures) in (
       omega (arith, c.next_offset-start.ensures, next_near (capability_end l.start m.result)),
       c.next_offset-start.ensures ∙ ap next_multiple e ∙ sym (offset_next (length_at d) l.i),
-      rw l.invariant.3 (filled_more capability_room (placed_capability d) no_placed_capability l.i _ (omega arith) (rw (c.id.ensures, c.offset_in.ensures, m.ensures, l.invariant.2))),
+      rw l.invariant.2 (filled_more capability_room (placed_capability d) no_placed_capability l.i _ (omega arith) (rw (c.id.ensures, c.offset_in.ensures, m.ensures, l.invariant.1))),
     )
 
 pub returns : goal.returns
-returns c = let e : c.loop-i.i ≡ c.args.count = omega arith in rw e at c.loop-i.invariant.3
+returns c = let e : c.loop-i.i ≡ c.args.count = omega arith in rw e at c.loop-i.invariant.2

@@ -11,7 +11,4 @@ use Rattle.capability.proofs.Offsets.{farthest}
 use Rattle.capability.proofs.placing.place_capabilities.Given as goal
 
 abbrev pub invariant-loop-i : goal.invariant-loop-i
-invariant-loop-i l = (l.i ≤ l.count) × (l.start ≤ farthest l.i) × (l.start ≡ offset_at (length_at l.declared) l.i) × (l.out ≡ filled capability_room l.i (placed_capability l.declared) no_placed_capability)
-
-abbrev pub decreases-loop-i : goal.decreases-loop-i
-decreases-loop-i l = l.count - l.i
+invariant-loop-i l = (l.start ≤ farthest l.i) × (l.start ≡ offset_at (length_at l.declared) l.i) × (l.out ≡ filled capability_room l.i (placed_capability l.declared) no_placed_capability)

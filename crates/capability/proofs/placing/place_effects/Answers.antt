@@ -10,27 +10,17 @@ use Rattle.capability.proofs.placing.place_effects.Goals as goal
 
 pub loop-i-init : goal.loop-i-init
 unfolding table
-loop-i-init c = (search rules, rw c.none-out.ensures (sym (filled_none effect_room _ no_placed_effect)))
+loop-i-init c = rw c.none-out.ensures (sym (filled_none effect_room _ no_placed_effect))
 
-pub offset_bounds-effects-i : goal.offset_bounds-effects-i
-offset_bounds-effects-i c = omega arith
 
-pub bounds-effects-i : goal.bounds-effects-i
-bounds-effects-i c = omega arith
 
-pub offset_bounds-out-i : goal.offset_bounds-out-i
-offset_bounds-out-i c = omega arith
 
-pub bounds-out-i : goal.bounds-out-i
-bounds-out-i c = omega arith
 
-pub loop-i-smaller : goal.loop-i-smaller
-loop-i-smaller c = falls _ _ c.loop-i-test.true
 
 pub loop-i-preserved : goal.loop-i-preserved
 loop-i-preserved c =
     let l = c.loop-i in
-    (search rules, rw l.invariant.1 (filled_more effect_room _ no_placed_effect l.i c.place_effect-effect.result (omega arith) c.place_effect-effect.ensures))
+    rw l.invariant (filled_more effect_room _ no_placed_effect l.i c.place_effect-effect.result (omega arith) c.place_effect-effect.ensures)
 
 pub returns : goal.returns
-returns c = let e : c.loop-i.i ≡ c.args.count = omega arith in rw e at c.loop-i.invariant.1
+returns c = let e : c.loop-i.i ≡ c.args.count = omega arith in rw e at c.loop-i.invariant

@@ -10,7 +10,4 @@ use Rattle.capability.specs.Layout.{placed_effect}
 use Rattle.capability.proofs.placing.place_effects.Given as goal
 
 abbrev pub invariant-loop-i : goal.invariant-loop-i
-invariant-loop-i l = (l.i ≤ l.count) × (l.out ≡ filled effect_room l.i (λ j. placed_effect (get_or l.effects j no_effect)) no_placed_effect)
-
-abbrev pub decreases-loop-i : goal.decreases-loop-i
-decreases-loop-i l = l.count - l.i
+invariant-loop-i l = l.out ≡ filled effect_room l.i (λ j. placed_effect (get_or l.effects j no_effect)) no_placed_effect

@@ -6,7 +6,4 @@ use Rattle.capability.specs.Repeat.{id_among}
 use Rattle.capability.proofs.repeat.id_among.Given as goal
 
 abbrev pub invariant-loop-i : goal.invariant-loop-i
-invariant-loop-i l = (l.i ≤ l.count) × (id_among l.effects l.id l.i ≡ false)
-
-abbrev pub decreases-loop-i : goal.decreases-loop-i
-decreases-loop-i l = l.count - l.i
+invariant-loop-i l = id_among l.effects l.id l.i ≡ false

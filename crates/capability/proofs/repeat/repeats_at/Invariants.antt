@@ -7,7 +7,4 @@ use Rattle.capability.specs.Repeat.{repeats}
 use Rattle.capability.proofs.repeat.repeats_at.Given as goal
 
 abbrev pub invariant-loop-i : goal.invariant-loop-i
-invariant-loop-i l = (l.i ≤ l.count) × (any_below (repeats l.effects l.capability) l.i ≡ false)
-
-abbrev pub decreases-loop-i : goal.decreases-loop-i
-decreases-loop-i l = l.count - l.i
+invariant-loop-i l = any_below (repeats l.effects l.capability) l.i ≡ false

@@ -12,4 +12,4 @@ length_is c = ap (λ (s : Span). s.length) c.span_at-s.ensures
 
 pub returns : goal.returns
 unfolding body_length
-returns c = rw (← length_is (goal.at.returns c).After-span_at-s) c.at_most.ensures
+returns c = rw (← length_is (goal.at.returns c).After-span_at-s) c.min.ensures

@@ -7,7 +7,4 @@ use Rattle.capability.specs.Size.{body_most}
 use Rattle.capability.proofs.snapshot.copy_of.Given as goal
 
 abbrev pub invariant-loop-k : goal.invariant-loop-k
-invariant-loop-k l = (l.k ≤ l.length) × (l.length ≤ body_most) × (l.length ≤ length l.bytes) × (l.copy ≡ filled body_most l.k (λ j. get_or l.bytes j 0) 0)
-
-abbrev pub decreases-loop-k : goal.decreases-loop-k
-decreases-loop-k l = l.length - l.k
+invariant-loop-k l = l.copy ≡ filled body_most l.k (λ j. get_or l.bytes j 0) 0

@@ -8,20 +8,17 @@ use Rattle.capability.proofs.Offsets.{next_near, offset_first, offset_next}
 use Rattle.capability.proofs.declared.Capabilities.next_start.Goals as goal
 
 pub loop-i-init : goal.loop-i-init
-loop-i-init c = (search rules, search rules, sym (offset_first _))
+loop-i-init c = (search rules, sym (offset_first _))
 
 pub next_offset-start-requires : goal.next_offset-start-requires
 next_offset-start-requires c = omega (arith, c.declared_count-count.ensures)
 
-pub loop-i-smaller : goal.loop-i-smaller
-loop-i-smaller c = falls _ _ c.loop-i-test.true
 
 pub loop-i-preserved : goal.loop-i-preserved
 loop-i-preserved c =
     let d = c.args.self in
     let l = c.loop-i in
-    let ends : capability_end l.start c.length_at.result ≡ end_at (length_at d) l.i = rw (l.invariant.2, c.length_at.ensures) in (
-      omega arith,
+    let ends : capability_end l.start c.length_at.result ≡ end_at (length_at d) l.i = rw (l.invariant.1, c.length_at.ensures) in (
       omega (arith, c.next_offset-start.ensures, next_near (capability_end l.start c.length_at.result)),
       c.next_offset-start.ensures ∙ ap next_multiple ends ∙ sym (offset_next (length_at d) l.i),
     )
@@ -31,4 +28,4 @@ returns c =
     let l = c.loop-i in
     let n = c.declared_count-count in
     let e : l.i ≡ n.result = omega arith in
-    (l.invariant.2 ∙ ap (offset_at (length_at c.args.self)) (e ∙ n.ensures), omega (arith, n.ensures))
+    (l.invariant.1 ∙ ap (offset_at (length_at c.args.self)) (e ∙ n.ensures), omega (arith, n.ensures))

@@ -7,7 +7,4 @@ use Rattle.capability.specs.Offset.{offset_at}
 use Rattle.capability.proofs.declared.Capabilities.next_start.Given as goal
 
 abbrev pub invariant-loop-i : goal.invariant-loop-i
-invariant-loop-i l = (l.i ≤ l.count) × (l.start ≤ standard_header_end + 260 * l.i) × (l.start ≡ offset_at (length_at l.self) l.i)
-
-abbrev pub decreases-loop-i : goal.decreases-loop-i
-decreases-loop-i l = l.count - l.i
+invariant-loop-i l = (l.start ≤ standard_header_end + 260 * l.i) × (l.start ≡ offset_at (length_at l.self) l.i)
