@@ -15,15 +15,13 @@ use refusal::Refusal;
 fn overlaps_one(earlier: Effect, capability: u8, offset: u8, length: u8) -> bool
     ensures { result ≡ clashes earlier capability offset length }
 {
-    if earlier.capability == capability {
-        return word::overlap(
+    earlier.capability == capability
+        && word::overlap(
             offset as u64,
             length as u64,
             earlier.offset as u64,
             earlier.length as u64,
-        );
-    }
-    false
+        )
 }
 
 // Whether it overlaps one of the first `count`.
@@ -37,13 +35,7 @@ fn overlaps_earlier(
     requires { count ≤ effect_room }
     ensures { result ≡ overlaps_earlier effects count capability offset length }
 {
-    for i in 0..count {
-        let overlaps = overlaps_one(effects[i], capability, offset, length);
-        if overlaps {
-            return true;
-        }
-    }
-    false
+    effects[..count].iter().any(|earlier| overlaps_one(*earlier, capability, offset, length))
 }
 
 // The write mask of byte `at` of a capability.
@@ -61,14 +53,7 @@ fn covers_writable(mask: &[u8], offset: u8, length: u8) -> bool
     ensures { result ≡ covers_writable mask.now offset length }
 {
     let start = offset as usize;
-    let many = length as usize;
-    for i in 0..many {
-        let bits = mask_at(mask, start + i);
-        if bits != 0 {
-            return true;
-        }
-    }
-    false
+    (0..length as usize).any(|i| mask_at(mask, start + i) != 0)
 }
 
 // The index of the latest capability, 0 where there is none.

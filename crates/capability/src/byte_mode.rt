@@ -31,14 +31,7 @@ pub fn capability_at(placed: Placed, offset: ConfigOffset) -> Option<usize>
     ensures { result ≡ holder_of placed offset.0 }
 {
     let at = offset.value() as usize;
-    let n = capability_count(placed);
-    for i in 0..n {
-        let held = capability_covers(placed, at, i);
-        if held {
-            return Some(i);
-        }
-    }
-    None
+    (0..capability_count(placed)).find(|i| capability_covers(placed, at, *i))
 }
 
 // The mode of a body byte.

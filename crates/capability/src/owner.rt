@@ -107,14 +107,7 @@ pub(crate) fn effect_holds(placed: Placed, offset: usize, width: usize, i: usize
 pub(crate) fn first_touched(placed: Placed, offset: usize, width: usize) -> Option<usize>
     ensures { result ≡ first_touched placed offset width }
 {
-    let n = effect_count(placed);
-    for i in 0..n {
-        let touched = effect_touched(placed, offset, width, i);
-        if touched {
-            return Some(i);
-        }
-    }
-    None
+    (0..effect_count(placed)).find(|i| effect_touched(placed, offset, width, *i))
 }
 
 // The effect that owns a byte, by its index.

@@ -12,13 +12,7 @@ fn id_among(effects: [Effect; EFFECT_LIMIT], id: u16, count: usize) -> bool
     requires { count ≤ effect_room }
     ensures { result ≡ id_among effects id count }
 {
-    for i in 0..count {
-        let earlier = effects[i];
-        if earlier.id == id {
-            return true;
-        }
-    }
-    false
+    effects[..count].iter().any(|earlier| earlier.id == id)
 }
 
 // Whether the effect at `index` is one of the capability and has an earlier one's id.
@@ -38,12 +32,5 @@ pub(crate) fn repeats_at(declared: Capabilities, capability: usize) -> bool
     ensures { result ≡ repeats_at declared capability }
 {
     let effects = declared.effects;
-    let count = declared.declared_effects();
-    for i in 0..count {
-        let repeated = repeats_one(effects, capability, i);
-        if repeated {
-            return true;
-        }
-    }
-    false
+    (0..declared.declared_effects()).any(|i| repeats_one(effects, capability, i))
 }

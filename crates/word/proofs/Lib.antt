@@ -12,3 +12,4 @@ pub mod Numbers
 pub mod ReadBytes
 pub mod ReadSums
 pub mod Merges
+pub mod Listed

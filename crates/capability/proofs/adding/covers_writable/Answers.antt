@@ -1,19 +1,20 @@
-use mathlib.Core.Path.{◌≡◌, sym, ◌∙◌}
+-- `covers_writable` is the library's `any`.
+use Prim.Native.Nat.{ℕ, ◌+◌}
+use mathlib.Core.Bool.{not}
+use mathlib.Core.Path.{refl, ◌∙◌}
 use native.Mathlib.Omega.{arith}
-use borrow.Author.Count.{falls}
-use borrow.Author.Rules.{rules}
-use Rattle.capability.proofs.BadEffects.{writable_none, writable_more, writable_here}
+use lib.Dec.{eqb}
+use Rattle.std.proofs.Common.{rules, tests}
+use Rattle.std.proofs.lemmas.Iterator.{YieldsList-from_range}
+use Rattle.std.proofs.lemmas.Iterator.Search.{any_from_yields_List}
+use Rattle.word.proofs.Listed.{any_range}
+use Rattle.capability.specs.BadEffect.{mask_at, covers_writable}
 use Rattle.capability.proofs.adding.covers_writable.Goals as goal
 
-pub loop-i-init : goal.loop-i-init
-loop-i-init c = writable_none _ _
-
-pub returns-then-bits-ne0 : goal.returns-then-bits-ne0
-returns-then-bits-ne0 c = sym (writable_here _ _ _ c.loop-i.i c.loop-i-test.true (λ e. c.if-bits-ne0.true (c.mask_at-bits.ensures ∙ e)))
-
-
-pub loop-i-preserved : goal.loop-i-preserved
-loop-i-preserved c = writable_more _ _ _ c.loop-i.invariant (sym c.mask_at-bits.ensures ∙ c.if-bits-ne0.false)
-
 pub returns : goal.returns
-returns c = let e : c.loop-i.i ≡ c.args.length = omega arith in sym (rw e at c.loop-i.invariant)
+unfolding covers_writable
+returns c =
+    let a = c.args in
+    let test = λ (i : ℕ). not (eqb (mask_at a.mask.now (a.offset + i)) 0) in
+    let h = any_from_yields_List test _ _ c.any.result c.any.ensures.ran (YieldsList-from_range 0 a.length a.length refl (omega arith)) (λ x b q k. search (rules, tests)) in
+    h ∙ any_range test a.length

@@ -1,21 +1,23 @@
-use mathlib.Core.Path.{◌≡◌, sym, ◌∙◌}
+-- `overlaps_earlier` is the library's `any`.
+use mathlib.Core.Path.{◌≡◌, ◌∙◌}
 use native.Mathlib.Omega.{arith}
-use borrow.Author.Count.{falls}
-use borrow.Author.Rules.{rules}
-use Rattle.capability.proofs.BadEffects.{earlier_none, earlier_more, earlier_here}
+use lib.ListN.{length, take}
+use Rattle.std.proofs.Common.{rules, tests}
+use Rattle.std.proofs.lemmas.Iterator.{YieldsList-from_slice}
+use Rattle.std.proofs.lemmas.Iterator.Search.{any_from_yields_List}
+use Rattle.word.proofs.Listed.{any_taken}
+use Rattle.word.proofs.Mapped.{long_unmapped}
+use Rattle.address.specs.Limits.{effect_room}
+use Rattle.capability.specs.Effect.{no_effect}
+use Rattle.capability.specs.BadEffect.{clashes, overlaps_earlier}
+use Rattle.capability.specs.declared.effect.Effect.{Effect}
 use Rattle.capability.proofs.adding.overlaps_earlier.Goals as goal
 
-pub loop-i-init : goal.loop-i-init
-loop-i-init c = earlier_none _ _ _ _
-
-
-
-pub returns-then-overlaps : goal.returns-then-overlaps
-returns-then-overlaps c = sym (earlier_here _ _ c.loop-i.i _ _ _ c.loop-i-test.true (sym c.overlaps_one-overlaps.ensures ∙ c.if-overlaps.true))
-
-
-pub loop-i-preserved : goal.loop-i-preserved
-loop-i-preserved c = earlier_more _ _ _ _ _ c.loop-i.invariant (sym c.overlaps_one-overlaps.ensures ∙ c.if-overlaps.false)
-
 pub returns : goal.returns
-returns c = let e : c.loop-i.i ≡ c.args.count = omega arith in sym (rw e at c.loop-i.invariant)
+unfolding overlaps_earlier
+returns c =
+    let a = c.args in
+    let test = λ (e : Effect). clashes e a.capability a.offset a.length in
+    let long : length a.effects ≡ effect_room = search (rules, long_unmapped) in
+    let h = any_from_yields_List test _ _ c.any.result c.any.ensures.ran (YieldsList-from_slice (take a.count a.effects) cc) (λ x b q k. search (rules, tests)) in
+    h ∙ any_taken test no_effect a.effects a.count (omega arith)

@@ -1,27 +1,18 @@
-use mathlib.Core.Path.{◌≡◌, sym, ◌∙◌}
+-- `capability_at` is the library's `find`.
+use mathlib.Core.Path.{refl, sym, ◌∙◌}
 use native.Mathlib.Omega.{arith}
-use Rattle.word.proofs.Searches.{any_none, any_more, any_never}
-use Rattle.capability.proofs.Modes.{holder_is, outside_nobody}
+use Rattle.std.proofs.Common.{rules, tests}
+use Rattle.std.proofs.lemmas.Iterator.{YieldsList-from_range}
+use Rattle.std.proofs.lemmas.Iterator.Adapters.{option_map_id}
+use Rattle.std.proofs.lemmas.Iterator.Search.{find_from_yields_List}
+use Rattle.word.proofs.Listed.{find_range}
+use Rattle.capability.specs.Mode.{in_capability, holder_of}
 use Rattle.capability.proofs.byte_mode.capability_at.Goals as goal
 
-pub loop-i-init : goal.loop-i-init
-loop-i-init c = any_none _
-
-pub returns-then-held : goal.returns-then-held
-returns-then-held c =
-    let l = c.loop-i in
-    rw (← c.value-at.ensures)
-    (sym (holder_is _ _ _ (omega (arith, c.capability_count-n.ensures, c.loop-i-test.true)) l.invariant (sym c.capability_covers-held.ensures ∙ c.if-held.true)))
-
-
-
-pub loop-i-preserved : goal.loop-i-preserved
-loop-i-preserved c =
-    any_more _ _ c.loop-i.invariant (sym c.capability_covers-held.ensures ∙ c.if-held.false)
-
 pub returns : goal.returns
+unfolding holder_of
 returns c =
-    let l = c.loop-i in
-    let e : l.i ≡ c.capability_count-n.result = omega arith in
-    rw (← c.value-at.ensures)
-    (sym (outside_nobody _ _ (any_never _ _ (rw (← c.capability_count-n.ensures, ← e) l.invariant))))
+    let test = in_capability c.args.placed c.value.result in
+    let n = c.capability_count.result in
+    let h = find_from_yields_List test _ _ c.find.result c.find.ensures.ran (YieldsList-from_range 0 n n refl (omega arith)) (λ x b q k. search (rules, tests)) in
+    sym (option_map_id c.find.result) ∙ h ∙ find_range test n ∙ rw (c.capability_count.ensures, c.value.ensures)

@@ -43,7 +43,6 @@ returns-then-space-start c =
 pub next_offset-start-requires : goal.next_offset-start-requires
 next_offset-start-requires c = omega (arith, c.declared_count-count.ensures)
 
-
 pub loop-i-preserved : goal.loop-i-preserved
 loop-i-preserved c =
     let d = c.args.declared in

@@ -1,25 +1,18 @@
-use mathlib.Core.Path.{◌≡◌, sym, ◌∙◌}
+-- `first_touched` is the library's `find`.
+use mathlib.Core.Path.{refl, sym, ◌∙◌}
 use native.Mathlib.Omega.{arith}
-use Rattle.word.proofs.Searches.{any_none, any_more}
-use Rattle.capability.proofs.Owners.{touched_first, touched_nobody}
+use Rattle.std.proofs.Common.{rules, tests}
+use Rattle.std.proofs.lemmas.Iterator.{YieldsList-from_range}
+use Rattle.std.proofs.lemmas.Iterator.Adapters.{option_map_id}
+use Rattle.std.proofs.lemmas.Iterator.Search.{find_from_yields_List}
+use Rattle.word.proofs.Listed.{find_range}
+use Rattle.capability.specs.Owner.{touches, first_touched}
 use Rattle.capability.proofs.owner.first_touched.Goals as goal
 
-pub loop-i-init : goal.loop-i-init
-loop-i-init c = any_none _
-
-pub returns-then-touched : goal.returns-then-touched
-returns-then-touched c =
-    let l = c.loop-i in
-    sym (touched_first _ _ _ _ (omega (arith, c.effect_count-n.ensures, c.loop-i-test.true)) l.invariant (sym c.effect_touched-touched.ensures ∙ c.if-touched.true))
-
-
-
-pub loop-i-preserved : goal.loop-i-preserved
-loop-i-preserved c =
-    any_more _ _ c.loop-i.invariant (sym c.effect_touched-touched.ensures ∙ c.if-touched.false)
-
 pub returns : goal.returns
+unfolding first_touched
 returns c =
-    let l = c.loop-i in
-    let e : l.i ≡ c.effect_count-n.result = omega arith in
-    sym (touched_nobody _ _ _ (rw (← c.effect_count-n.ensures, ← e) l.invariant))
+    let test = touches c.args.placed c.args.offset c.args.width in
+    let n = c.effect_count.result in
+    let h = find_from_yields_List test _ _ c.find.result c.find.ensures.ran (YieldsList-from_range 0 n n refl (omega arith)) (λ x b q k. search (rules, tests)) in
+    sym (option_map_id c.find.result) ∙ h ∙ find_range test n ∙ rw c.effect_count.ensures

@@ -16,17 +16,12 @@ pub loop-i-init : goal.loop-i-init
 unfolding table
 loop-i-init c = (search rules, sym (offset_first _), rw c.none-out.ensures (sym (filled_none capability_room _ no_placed_capability)))
 
-
-
 pub offset_in-requires : goal.offset_in-requires
 offset_in-requires c =
     rw c.loop-i.invariant.1 (c.requires.1 c.loop-i.i c.loop-i-test.true)
 
-
-
 pub next_offset-start-requires : goal.next_offset-start-requires
 next_offset-start-requires c = omega arith
-
 
 pub loop-i-preserved : goal.loop-i-preserved
 loop-i-preserved c =

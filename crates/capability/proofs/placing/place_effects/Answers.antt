@@ -12,11 +12,6 @@ pub loop-i-init : goal.loop-i-init
 unfolding table
 loop-i-init c = rw c.none-out.ensures (sym (filled_none effect_room _ no_placed_effect))
 
-
-
-
-
-
 pub loop-i-preserved : goal.loop-i-preserved
 loop-i-preserved c =
     let l = c.loop-i in

@@ -1,23 +1,22 @@
-use mathlib.Core.Path.{◌≡◌, sym}
+-- `id_among` is the library's `any`.
+use mathlib.Core.Path.{◌≡◌, ◌∙◌}
 use native.Mathlib.Omega.{arith}
-use borrow.Author.Count.{falls}
-use borrow.Author.Rules.{rules}
-use borrow.Author.Tests.{eq-eqb, ne_eqb}
-use Rattle.word.proofs.Searches.{any_none, any_more, any_found}
+use lib.Dec.{eqb}
+use lib.ListN.{length, take}
+use Rattle.std.proofs.Common.{rules, tests}
+use Rattle.std.proofs.lemmas.Iterator.{YieldsList-from_slice}
+use Rattle.std.proofs.lemmas.Iterator.Search.{any_from_yields_List}
+use Rattle.word.proofs.Listed.{any_taken}
+use Rattle.word.proofs.Mapped.{long_unmapped}
+use Rattle.address.specs.Limits.{effect_room}
+use Rattle.capability.specs.Effect.{no_effect}
+use Rattle.capability.specs.declared.effect.Effect.{Effect}
 use Rattle.capability.proofs.repeat.id_among.Goals as goal
 
-pub loop-i-init : goal.loop-i-init
-loop-i-init c = any_none _
-
-
-
-pub returns-then-earlier-id : goal.returns-then-earlier-id
-returns-then-earlier-id c =
-    sym (any_found _ c.loop-i.i _ c.loop-i-test.true (eq-eqb _ _ c.if-earlier-id.true))
-
-
-pub loop-i-preserved : goal.loop-i-preserved
-loop-i-preserved c = any_more _ _ c.loop-i.invariant (ne_eqb _ _ c.if-earlier-id.false)
-
 pub returns : goal.returns
-returns c = let e : c.loop-i.i ≡ c.args.count = omega arith in sym (rw e at c.loop-i.invariant)
+returns c =
+    let a = c.args in
+    let test = λ (e : Effect). eqb e.id a.id in
+    let long : length a.effects ≡ effect_room = search (rules, long_unmapped) in
+    let h = any_from_yields_List test _ _ c.any.result c.any.ensures.ran (YieldsList-from_slice (take a.count a.effects) cc) (λ x b q k. search (rules, tests)) in
+    h ∙ any_taken test no_effect a.effects a.count (omega arith)

@@ -13,7 +13,6 @@ loop-i-init c = (search rules, sym (offset_first _))
 pub next_offset-start-requires : goal.next_offset-start-requires
 next_offset-start-requires c = omega (arith, c.declared_count-count.ensures)
 
-
 pub loop-i-preserved : goal.loop-i-preserved
 loop-i-preserved c =
     let d = c.args.self in
