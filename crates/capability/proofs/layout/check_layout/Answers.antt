@@ -22,11 +22,7 @@ returns-then-repeated c =
     let l = c.loop-i in
     sym (rule_repeated a.space a.declared l.i (omega arith) l.invariant.2 (sym c.repeats_at-repeated.ensures ∙ c.if-repeated.true))
 
-pub overflow_add-start : goal.overflow_add-start
-overflow_add-start c = omega (arith, c.declared_count-count.ensures)
 
-pub overflow_add-start-in-loop-i : goal.overflow_add-start-in-loop-i
-overflow_add-start-in-loop-i c = omega (arith, c.declared_count-count.ensures)
 
 ends : (c : After-length_at-body) → let l = c.loop-i in l.start + header_size + c.length_at-body.result ≡ end_at (length_at c.args.declared) l.i
 ends c = rw (c.loop-i.invariant.1, c.length_at-body.ensures)
@@ -40,8 +36,6 @@ returns-then-space-start c =
     let l = c.loop-i in
     sym (rule_past a.space a.declared l.i (omega arith) l.invariant.2 (distinct (goal.at.returns-then-space-start c).After-length_at-body) (rw (← ends (goal.at.returns-then-space-start c).After-length_at-body) c.if-space-start.true))
 
-pub next_offset-start-requires : goal.next_offset-start-requires
-next_offset-start-requires c = omega (arith, c.declared_count-count.ensures)
 
 pub loop-i-preserved : goal.loop-i-preserved
 loop-i-preserved c =

@@ -23,11 +23,7 @@ within c =
     let l = length-take a.placed.count a.placed.capabilities in
     (omega (arith, c.if-i-capability_count.true, c.capability_count.ensures, l), omega (arith, c.if-i-capability_count.true, c.capability_count.ensures, l, long c.before.before))
 
-pub offset_bounds-placed-i : goal.offset_bounds-placed-i
-offset_bounds-placed-i c = omega (arith, (within (goal.at.offset_bounds-placed-i c).Then-i-capability_count).1)
 
-pub bounds-placed-i : goal.bounds-placed-i
-bounds-placed-i c = omega (arith, (within (goal.at.bounds-placed-i c).Then-i-capability_count).1)
 
 pub returns-then-i-capability_count : goal.returns-then-i-capability_count
 unfolding span_of

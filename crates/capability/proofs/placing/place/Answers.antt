@@ -8,7 +8,3 @@ pub place_capabilities-capabilities-requires : goal.place_capabilities-capabilit
 place_capabilities-capabilities-requires c =
     let a = c.args in
     (search rules, λ k h. omega (arith, (placed_fine a.space a.declared c.requires k (omega arith)).inside))
-
-pub returns : goal.returns
-returns c =
-    rw (c.place_capabilities-capabilities.ensures, c.place_effects-effects.ensures, c.declared_count-count.ensures, c.declared_effects-effect_count.ensures)

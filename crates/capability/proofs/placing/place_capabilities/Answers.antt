@@ -16,12 +16,7 @@ pub loop-i-init : goal.loop-i-init
 unfolding table
 loop-i-init c = (search rules, sym (offset_first _), rw c.none-out.ensures (sym (filled_none capability_room _ no_placed_capability)))
 
-pub offset_in-requires : goal.offset_in-requires
-offset_in-requires c =
-    rw c.loop-i.invariant.1 (c.requires.1 c.loop-i.i c.loop-i-test.true)
 
-pub next_offset-start-requires : goal.next_offset-start-requires
-next_offset-start-requires c = omega arith
 
 pub loop-i-preserved : goal.loop-i-preserved
 loop-i-preserved c =
@@ -33,6 +28,3 @@ loop-i-preserved c =
       c.next_offset-start.ensures ∙ ap next_multiple e ∙ sym (offset_next (length_at d) l.i),
       rw l.invariant.2 (filled_more capability_room (placed_capability d) no_placed_capability l.i _ (omega arith) (rw (c.id.ensures, c.offset_in.ensures, m.ensures, l.invariant.1))),
     )
-
-pub returns : goal.returns
-returns c = let e : c.loop-i.i ≡ c.args.count = omega arith in rw e at c.loop-i.invariant.2

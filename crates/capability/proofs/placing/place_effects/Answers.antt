@@ -16,6 +16,3 @@ pub loop-i-preserved : goal.loop-i-preserved
 loop-i-preserved c =
     let l = c.loop-i in
     rw l.invariant (filled_more effect_room _ no_placed_effect l.i c.place_effect-effect.result (omega arith) c.place_effect-effect.ensures)
-
-pub returns : goal.returns
-returns c = let e : c.loop-i.i ≡ c.args.count = omega arith in rw e at c.loop-i.invariant

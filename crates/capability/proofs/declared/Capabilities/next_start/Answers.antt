@@ -10,8 +10,6 @@ use Rattle.capability.proofs.declared.Capabilities.next_start.Goals as goal
 pub loop-i-init : goal.loop-i-init
 loop-i-init c = (search rules, sym (offset_first _))
 
-pub next_offset-start-requires : goal.next_offset-start-requires
-next_offset-start-requires c = omega (arith, c.declared_count-count.ensures)
 
 pub loop-i-preserved : goal.loop-i-preserved
 loop-i-preserved c =
@@ -21,10 +19,3 @@ loop-i-preserved c =
       omega (arith, c.next_offset-start.ensures, next_near (capability_end l.start c.length_at.result)),
       c.next_offset-start.ensures ∙ ap next_multiple ends ∙ sym (offset_next (length_at d) l.i),
     )
-
-pub returns : goal.returns
-returns c =
-    let l = c.loop-i in
-    let n = c.declared_count-count in
-    let e : l.i ≡ n.result = omega arith in
-    (l.invariant.1 ∙ ap (offset_at (length_at c.args.self)) (e ∙ n.ensures), omega (arith, n.ensures))
