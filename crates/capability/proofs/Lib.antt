@@ -12,7 +12,6 @@ pub mod NoLayouts
 pub mod Shown
 pub mod Laids
 pub mod Aparts
-pub mod Spans
 pub mod Regions
 pub mod Owners
 pub mod Touches

@@ -6,7 +6,6 @@ use Rattle.capability.specs.Blank.{no_placed_capability, no_placed_effect}
 use Rattle.capability.specs.declared.placed.Placed.{Placed}
 use Rattle.capability.specs.declared.placed.PlacedCapability.{PlacedCapability}
 use Rattle.capability.specs.declared.placed.PlacedEffect.{PlacedEffect}
-use Rattle.capability.specs.declared.owner.Span.{Span}
 
 -- the capabilities and the effects of a function: as many as are counted and kept
 abbrev pub capabilities_of : Placed → List PlacedCapability
@@ -31,10 +30,6 @@ effect_at p i = get_or (effects_of p) i no_placed_effect
 -- where the capability at an index starts, 0 past the last
 abbrev pub start_of : Placed → ℕ → ℕ
 start_of p i = (capability_at p i).offset.0
-
--- a capability as plain numbers: its id, its start in config space, the length of its body
-unfoldable pub span_of : Placed → ℕ → Span
-span_of p i = record { id = (capability_at p i).id; start = start_of p i; length = (capability_at p i).length }
 
 -- an effect's region starts at its offset from its capability's start
 unfoldable pub region_start : Placed → PlacedEffect → ℕ

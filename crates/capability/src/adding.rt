@@ -60,7 +60,7 @@ fn covers_writable(mask: &[u8], offset: u8, length: u8) -> bool
 fn latest_of(declared: Capabilities) -> u8
     ensures { result ≡ latest declared }
 {
-    word::past(declared.declared_count(), 1) as u8
+    declared.declared_count().saturating_sub(1) as u8
 }
 
 // Whether the latest capability refuses an effect of `length` bytes from `offset` on.
@@ -89,6 +89,7 @@ fn effect_bad(mask: &[u8], declared: Capabilities, offset: u8, length: u8) -> bo
 
 impl Capabilities {
     // Declares an effect of the latest capability, whose body has the write masks `mask`.
+    #[tactic(auto, unfolding(crate::specs::Addition::add_effect_of))]
     pub fn add_effect(
         self,
         mask: &[u8],

@@ -2,7 +2,7 @@
 ghost use Rattle.std.specs.Prelude.{◌≡◌};
 ghost use Rattle.capability.specs.Mode.{in_capability, holder_of, body_mode, byte_mode_of};
 
-use crate::owner::{capability_count, owner_of, span_at};
+use crate::owner::{capability_count, capability_in, capability_start, owner_of};
 use crate::placed::{CAPABILITY_HEADER_SIZE, Placed};
 use address::ConfigOffset;
 
@@ -15,13 +15,14 @@ pub enum ByteMode {
 }
 
 // Whether a byte lies in the capability at an index.
+#[tactic(auto, unfolding(crate::specs::Mode::in_capability))]
 fn capability_covers(placed: Placed, offset: usize, i: usize) -> bool
     ensures { result ≡ in_capability placed offset i }
 {
-    let s = span_at(placed, i);
+    let capability = capability_in(placed, i);
     word::covered(
-        s.start as usize,
-        CAPABILITY_HEADER_SIZE + (s.length as usize),
+        capability.offset.value() as usize,
+        CAPABILITY_HEADER_SIZE + (capability.length as usize),
         offset,
     )
 }
@@ -56,8 +57,8 @@ pub fn mode_of(placed: Placed, mask: &[u8], offset: ConfigOffset) -> Option<Byte
 {
     let at = offset.value() as usize;
     let i = capability_at(placed, offset)?;
-    let s = span_at(placed, i);
-    let header = word::covered(s.start as usize, CAPABILITY_HEADER_SIZE, at);
+    let start = capability_start(placed, i) as usize;
+    let header = word::covered(start, CAPABILITY_HEADER_SIZE, at);
     if header {
         return Some(ByteMode::Constant);
     }

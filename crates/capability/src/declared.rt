@@ -27,6 +27,7 @@ pub struct Capabilities {
 
 impl Capability {
     // Refusal 10.
+    #[tactic(auto, unfolding(crate::specs::Declaration::capability_of))]
     pub fn new(id: u8, length: usize) -> Result<Capability, Refusal>
         ensures { result ≡ capability_of id length }
     {
@@ -62,6 +63,7 @@ impl Capability {
 }
 
 impl Capabilities {
+    #[tactic(auto, unfolding(crate::specs::Declaration::none_declared, word::specs::Table::table))]
     pub fn none() -> Capabilities
         ensures { result ≡ none_declared }
     {
@@ -77,14 +79,14 @@ impl Capabilities {
     pub fn declared_count(self) -> usize
         ensures { result ≡ count_of self }
     {
-        word::at_most(self.count, CAPABILITY_LIMIT)
+        self.count.min(CAPABILITY_LIMIT)
     }
 
     // How many effects are.
     pub fn declared_effects(self) -> usize
         ensures { result ≡ effect_count_of self }
     {
-        word::at_most(self.effect_count, EFFECT_LIMIT)
+        self.effect_count.min(EFFECT_LIMIT)
     }
 
     // The body length of the capability at an index, 0 past the array.
@@ -99,6 +101,7 @@ impl Capabilities {
     }
 
     // Declares one more capability: refusal 4.
+    #[tactic(auto, unfolding(crate::specs::Addition::add_capability_of))]
     pub fn add_capability(self, capability: Capability) -> Result<Capabilities, Refusal>
         ensures { result ≡ add_capability_of limits self capability }
     {

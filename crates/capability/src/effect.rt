@@ -25,6 +25,7 @@ pub struct Effect {
 
 impl EffectAccess {
     // The access that document 01 gives the number.
+    #[tactic(auto, unfolding(crate::specs::Effect::access_of_number))]
     pub fn new(number: u8) -> Result<EffectAccess, Refusal>
         ensures { result ≡ access_of_number number }
     {
@@ -43,6 +44,7 @@ impl EffectAccess {
     }
 
     // Whether it allows a direction.
+    #[tactic(auto, unfolding(crate::specs::Touch::allows))]
     pub(crate) fn allows(self, write: bool) -> bool
         ensures { result ≡ allows write (effect_access_number self) }
     {

@@ -3,7 +3,7 @@ ghost use Rattle.std.specs.Prelude.{◌≡◌};
 ghost use Rattle.capability.specs.Touch.{allows, decision, touch_of};
 
 use crate::effect::EffectAccess;
-use crate::owner::{effect_at, effect_holds, first_touched, region_start, span_at};
+use crate::owner::{capability_in, effect_at, effect_holds, first_touched, region_start};
 use crate::placed::{Placed, PlacedEffect};
 use address::ConfigOffset;
 use refusal::Refusal;
@@ -43,12 +43,14 @@ fn decided(
     let allowed = access_allows(region.access, write);
     if inside {
         if allowed {
-            let capability = span_at(placed, region.capability as usize);
+            let capability = capability_in(placed, region.capability as usize);
             return Ok(Some(EffectHit {
                 capability_id: capability.id,
                 region,
-                offset: word::past(offset as usize, capability.start as usize) as u16,
-                region_offset: word::past(offset as usize, region_start(placed, region)) as u16,
+                offset: offset.saturating_sub(capability.offset.value()),
+                region_offset: (offset as usize).saturating_sub(region_start(
+                    placed, region,
+                )) as u16,
             }));
         }
     }

@@ -44,6 +44,7 @@ fn check_layout(space: u16, declared: Capabilities) -> Result<(), LayoutRefusal>
 }
 
 // Lays the capabilities out in a config space of `space` bytes.
+#[tactic(auto, unfolding(crate::specs::Layout::layout_of))]
 pub fn layout_capabilities(space: u16, declared: Capabilities) -> Result<Placed, LayoutRefusal>
     ensures { result ≡ layout_of space declared }
 {

@@ -12,6 +12,7 @@ use address::config_layout::CONFIG_STANDARD_HEADER_END;
 pub const CAPABILITY_ALIGNMENT: usize = 4;
 
 // Where the capability after one at `start` starts.
+#[tactic(auto, unfolding(crate::specs::Offset::next_multiple))]
 pub(crate) fn next_offset(start: usize, body: u8) -> usize
     requires { start ≤ 0x10000 }
     ensures { result ≡ next_multiple (capability_end start body) }

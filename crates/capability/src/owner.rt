@@ -1,60 +1,41 @@
 // Which effect owns a byte of config space.
 ghost use Rattle.std.specs.Prelude.{◌≡◌};
-ghost use Rattle.capability.specs.Owner.{capability_count, effect_count, effect_at, start_of, span_of, region_start, touches, holds, first_touched, owner_of};
+ghost use Rattle.capability.specs.Owner.{capability_count, effect_count, effect_at, capability_at, start_of, region_start, touches, holds, first_touched, owner_of};
 
-use crate::placed::{Placed, PlacedEffect};
+use crate::placed::{Placed, PlacedCapability, PlacedEffect};
 use address::ConfigOffset;
 use address::limits::{CAPABILITY_LIMIT, EFFECT_LIMIT};
-
-// A capability as plain numbers: its id, its start in config space, the length of its body.
-#[repr(C)]
-#[derive(Clone, Copy, Debug, PartialEq, Eq)]
-pub struct Span {
-    pub id: u8,
-    pub start: u16,
-    pub length: u8,
-}
 
 // How many capabilities there are.
 pub fn capability_count(placed: Placed) -> usize
     ensures { result ≡ capability_count placed }
 {
-    word::at_most(placed.count, CAPABILITY_LIMIT)
+    placed.count.min(CAPABILITY_LIMIT)
 }
 
 // How many effects there are.
 fn effect_count(placed: Placed) -> usize
     ensures { result ≡ effect_count placed }
 {
-    word::at_most(placed.effect_count, EFFECT_LIMIT)
+    placed.effect_count.min(EFFECT_LIMIT)
 }
 
-// The capability at an index; all zero past the last.
-pub(crate) fn span_at(placed: Placed, i: usize) -> Span
-    ensures { result ≡ span_of placed i }
+// The capability at an index, blank past the last.
+pub(crate) fn capability_in(placed: Placed, i: usize) -> PlacedCapability
+    ensures { result ≡ capability_at placed i }
 {
     if i < capability_count(placed) {
-        let c = placed.capabilities[i];
-        let offset = c.offset;
-        return Span {
-            id: c.id,
-            start: offset.value(),
-            length: c.length,
-        };
+        return placed.capabilities[i];
     }
-    Span {
-        id: 0,
-        start: 0,
-        length: 0,
-    }
+    PlacedCapability::none()
 }
 
 // Where the capability at an index starts, 0 past the last.
 pub fn capability_start(placed: Placed, i: usize) -> u16
     ensures { result ≡ start_of placed i }
 {
-    let s = span_at(placed, i);
-    s.start
+    let capability = capability_in(placed, i);
+    capability.offset.value()
 }
 
 // The effect at an index, blank past the last.
@@ -68,14 +49,16 @@ pub(crate) fn effect_at(placed: Placed, i: usize) -> PlacedEffect
 }
 
 // Where the region of an effect starts in config space.
+#[tactic(auto, unfolding(crate::specs::Owner::region_start))]
 pub(crate) fn region_start(placed: Placed, effect: PlacedEffect) -> usize
     ensures { result ≡ region_start placed effect }
 {
-    let s = span_at(placed, effect.capability as usize);
-    (s.start as usize) + (effect.offset as usize)
+    let start = capability_start(placed, effect.capability as usize);
+    (start as usize) + (effect.offset as usize)
 }
 
 // Whether some byte of an access lies in the region of the effect at an index.
+#[tactic(auto, unfolding(crate::specs::Owner::touches))]
 fn effect_touched(placed: Placed, offset: usize, width: usize, i: usize) -> bool
     ensures { result ≡ touches placed offset width i }
 {

@@ -70,6 +70,7 @@ impl PlacedEffect {
 
 impl Placed {
     // Nothing at all.
+    #[tactic(auto, unfolding(crate::specs::Blank::nothing_placed, word::specs::Table::table))]
     pub fn none() -> Placed
         ensures { result ≡ nothing_placed }
     {

@@ -3,7 +3,7 @@ ghost use Rattle.std.specs.Prelude.{◌≡◌, ◌<◌, replicate};
 ghost use Rattle.capability.specs.Size.{body_most};
 ghost use Rattle.capability.specs.Snapshot.{body_start, body_length, snapshot_of, copy_of};
 
-use crate::owner::span_at;
+use crate::owner::{capability_in, capability_start};
 use crate::placed::{CAPABILITY_BODY_MAX_SIZE, CAPABILITY_HEADER_SIZE, Placed};
 
 // `length` bytes of a body; what lies past them is zero.
@@ -15,19 +15,20 @@ pub struct Snapshot {
 }
 
 // Where the body of the capability at an index starts in config space.
+#[tactic(auto, unfolding(crate::specs::Snapshot::body_start))]
 pub(crate) fn body_start(placed: Placed, i: usize) -> usize
     ensures { (result ≡ body_start placed i) × (result < 0x10002) }
 {
-    let s = span_at(placed, i);
-    (s.start as usize) + CAPABILITY_HEADER_SIZE
+    (capability_start(placed, i) as usize) + CAPABILITY_HEADER_SIZE
 }
 
 // How long that body is.
+#[tactic(auto, unfolding(crate::specs::Snapshot::body_length))]
 pub(crate) fn body_length(placed: Placed, i: usize) -> usize
     ensures { result ≡ body_length placed i }
 {
-    let s = span_at(placed, i);
-    (s.length as usize).min(CAPABILITY_BODY_MAX_SIZE)
+    let capability = capability_in(placed, i);
+    (capability.length as usize).min(CAPABILITY_BODY_MAX_SIZE)
 }
 
 fn blank() -> [u8; CAPABILITY_BODY_MAX_SIZE]

@@ -3,15 +3,14 @@ use mathlib.Core.Bool.{Bool, true, false}
 use mathlib.Core.Path.{◌≡◌, sym, ◌∙◌}
 use Rattle.word.specs.Interval.{covers}
 use Rattle.capability.specs.Size.{header_size}
-use Rattle.capability.specs.Owner.{span_of, start_of}
+use Rattle.capability.specs.Owner.{start_of}
 use Rattle.capability.proofs.Modes.{mode_outside, mode_header, mode_body}
 use Rattle.capability.proofs.byte_mode.mode_of.Goals as goal
 use Rattle.capability.proofs.byte_mode.mode_of.Goals.{After-covered-header}
 
 -- whether the byte is one of the header
 header : (t : Bool) (c : After-covered-header) → c.covered-header.result ≡ t → covers (start_of c.args.placed c.in_ok-i.i) header_size c.args.offset.0 ≡ t
-unfolding span_of
-header t c e = rw (← c.value-at.ensures) (rw c.span_at-s.ensures at (sym c.covered-header.ensures ∙ e))
+header t c e = rw (← c.value-at.ensures) (rw c.capability_start-start.ensures at (sym c.covered-header.ensures ∙ e))
 
 pub returns-then-header : goal.returns-then-header
 returns-then-header c =

@@ -1,7 +1,7 @@
 -- `decided` answers where both tests hold.
 use mathlib.Core.Bool.{Bool, true, false}
 use mathlib.Core.Path.{◌≡◌, sym, ◌∙◌}
-use Rattle.capability.specs.Owner.{effect_at, holds, span_of}
+use Rattle.capability.specs.Owner.{effect_at, holds}
 use Rattle.capability.specs.Touch.{allows}
 use Rattle.capability.proofs.Touches.{decision_inside, decision_outside, decision_direction}
 use Rattle.capability.proofs.effect_access.decided.Goals as goal
@@ -15,9 +15,8 @@ allowed : (t : Bool) (c : After-access_allows-allowed) → c.access_allows-allow
 allowed t c e = rw (← c.effect_at-region.ensures) (sym c.access_allows-allowed.ensures ∙ e)
 
 pub returns-then-allowed : goal.returns-then-allowed
-unfolding span_of
 returns-then-allowed c =
-    rw (decision_inside _ _ _ _ _ (held true (goal.at.returns-then-allowed c).After-access_allows-allowed c.if-inside.true) (allowed true (goal.at.returns-then-allowed c).After-access_allows-allowed c.if-allowed.true), c.past-then-allowed.ensures, c.region_start.ensures, c.past.ensures, c.span_at-capability.ensures, c.effect_at-region.ensures)
+    rw (decision_inside _ _ _ _ _ (held true (goal.at.returns-then-allowed c).After-access_allows-allowed c.if-inside.true) (allowed true (goal.at.returns-then-allowed c).After-access_allows-allowed c.if-allowed.true), c.saturating_sub-then-allowed.ensures, c.region_start.ensures, c.saturating_sub.ensures, c.value.ensures, c.capability_in-capability.ensures, c.effect_at-region.ensures)
 
 pub returns-else-allowed : goal.returns-else-allowed
 returns-else-allowed c = sym (decision_direction _ _ _ _ _ (allowed false (goal.at.returns-else-allowed c).After-access_allows-allowed c.if-allowed.false))

@@ -22,8 +22,6 @@ returns-then-repeated c =
     let l = c.loop-i in
     sym (rule_repeated a.space a.declared l.i (omega arith) l.invariant.2 (sym c.repeats_at-repeated.ensures ∙ c.if-repeated.true))
 
-
-
 ends : (c : After-length_at-body) → let l = c.loop-i in l.start + header_size + c.length_at-body.result ≡ end_at (length_at c.args.declared) l.i
 ends c = rw (c.loop-i.invariant.1, c.length_at-body.ensures)
 
@@ -35,7 +33,6 @@ returns-then-space-start c =
     let a = c.args in
     let l = c.loop-i in
     sym (rule_past a.space a.declared l.i (omega arith) l.invariant.2 (distinct (goal.at.returns-then-space-start c).After-length_at-body) (rw (← ends (goal.at.returns-then-space-start c).After-length_at-body) c.if-space-start.true))
-
 
 pub loop-i-preserved : goal.loop-i-preserved
 loop-i-preserved c =

@@ -16,8 +16,6 @@ pub loop-i-init : goal.loop-i-init
 unfolding table
 loop-i-init c = (search rules, sym (offset_first _), rw c.none-out.ensures (sym (filled_none capability_room _ no_placed_capability)))
 
-
-
 pub loop-i-preserved : goal.loop-i-preserved
 loop-i-preserved c =
     let d = c.args.declared in

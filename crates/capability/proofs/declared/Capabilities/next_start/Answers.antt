@@ -10,7 +10,6 @@ use Rattle.capability.proofs.declared.Capabilities.next_start.Goals as goal
 pub loop-i-init : goal.loop-i-init
 loop-i-init c = (search rules, sym (offset_first _))
 
-
 pub loop-i-preserved : goal.loop-i-preserved
 loop-i-preserved c =
     let d = c.args.self in
