@@ -15,12 +15,6 @@ returns-then-size-gt-MOST_SIZE c = sym (size_large _ c.if-size-gt-MOST_SIZE.true
 pub loop-power-init : goal.loop-power-init
 loop-power-init c = (4, refl, omega arith, omega arith, λ j e. least_exponent _ j (omega arith) e)
 
-pub overflow_mul-power : goal.overflow_mul-power
-overflow_mul-power c = omega arith
-
-pub loop-power-smaller : goal.loop-power-smaller
-loop-power-smaller c = omega arith
-
 pub loop-power-preserved : goal.loop-power-preserved
 loop-power-preserved c = let l = c.loop-power in
     (l.invariant.0 + 1, rw (l.invariant.1, add-one, pow-suc), omega arith, omega arith, power_next _ l.power l.invariant.0 l.invariant.1 c.loop-power-test.true l.invariant.4)

@@ -21,9 +21,6 @@ loop-i-preserved c =
       simp length-set l.invariant.3,
     )
 
-pub shape_of-live : goal.shape_of-live
-shape_of-live c = c.loop-i.invariant.3
-
 pub returns : goal.returns
 returns c =
     let a = c.args in

@@ -1,12 +1,7 @@
 -- `read_part` spells the part of the list that is there.
 use mathlib.Core.Path.{ap, ◌∙◌}
-use native.Mathlib.Omega.{arith}
-use lib.ListN.{length-take}
 use Rattle.word.specs.Number.{number, read_at}
 use Rattle.word.proofs.number.read_part.Goals as goal
-
-pub spelt-requires : goal.spelt-requires
-spelt-requires c = rw (c.part.ensures, length-take) (omega (arith, c.at_most.ensures))
 
 pub returns : goal.returns
 unfolding read_at

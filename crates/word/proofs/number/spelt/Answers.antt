@@ -1,5 +1,5 @@
 use Prim.Native.Nat.{◌-◌}
-use mathlib.Core.Path.{◌≡◌, sym, ◌∙◌}
+use mathlib.Core.Path.{sym}
 use native.Mathlib.Omega.{arith}
 use lib.Seq.{drop-length}
 use Rattle.word.specs.Number.{number}
@@ -25,6 +25,3 @@ loop-i-preserved c =
     let l = c.loop-i in
     let b = c.args.bytes.now in
     (omega arith, rw (c.from.ensures, l.invariant.1) (sym (number_more b (l.i - 1) l.i (omega arith) (omega arith))))
-
-pub returns : goal.returns
-returns c = let e : c.loop-i.i ≡ 0 = omega arith in c.loop-i.invariant.1 ∙ rw e

@@ -13,9 +13,6 @@ loop-i-preserved c =
     let l = c.loop-i in
     (l.invariant.0, rw l.invariant.1 (laid_more a.bytes.now a.offset a.part.now l.i _ (omega arith) refl), simp length-set l.invariant.2)
 
-pub shape_of-bytes : goal.shape_of-bytes
-shape_of-bytes c = c.loop-i.invariant.2
-
 pub returns : goal.returns
 returns c =
     let a = c.args in

@@ -18,9 +18,6 @@ loop-i-preserved c = let a = c.args in
       simp length-set l.invariant.3,
     )
 
-pub shape_of-bytes : goal.shape_of-bytes
-shape_of-bytes c = c.loop-i.invariant.3
-
 pub returns : goal.returns
 returns c = let a = c.args in
     let l = c.loop-i in
