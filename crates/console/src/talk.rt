@@ -15,7 +15,6 @@ struct Held {
 struct Talk {
     pub bus: Bus,
     pub held: Held,
-    pub open: bool,
 }
 
 fn nothing_held() -> Held {
@@ -88,53 +87,45 @@ fn hear<W: Write>(
 ) -> io::Result<Talk> {
     let mut bus = talk.bus;
     let mut held = talk.held;
-    for i in 0..input.len() {
-        let byte = input[i];
-        if byte == b'\n' {
-            let after = end_line(output, line, held, bus)?;
-            bus = after;
+    for byte in input {
+        if *byte == b'\n' {
+            bus = end_line(output, line, held, bus)?;
             held = nothing_held();
         } else {
-            held = keep(output, line, held, byte)?;
+            held = keep(output, line, held, *byte)?;
         }
     }
-    Ok(Talk {
-        bus,
-        held,
-        open: true,
-    })
+    Ok(Talk { bus, held })
 }
 
 // The input has ended; the last line may lack its end.
-fn close<W: Write>(output: &mut W, line: &[u8], talk: Talk) -> io::Result<Talk> {
-    let held = talk.held;
-    let bus = talk.bus;
-    let mut after = bus;
-    if 0 < held.length {
-        let last = end_line(output, line, held, bus)?;
-        after = last;
+fn close<W: Write>(output: &mut W, line: &[u8], talk: Talk) -> io::Result<()> {
+    if talk.held.length > 0 {
+        end_line(output, line, talk.held, talk.bus)?;
     }
-    Ok(Talk {
-        bus: after,
-        held: nothing_held(),
-        open: false,
-    })
+    Ok(())
 }
 
-// Reads once, and answers what came.
+// Reads once, and answers what came; `None` where the input has ended.
 fn listen<R: Read, W: Write>(
     input: &mut R,
     output: &mut W,
     line: &mut [u8; LINE_MOST],
     talk: Talk,
-) -> io::Result<Talk> {
+) -> io::Result<Option<Talk>> {
     let mut came = [0u8; 4096];
     match input.read(&mut came) {
-        Ok(0) => close(output, line, talk),
-        Ok(count) => hear(output, line, &came[..count], talk),
+        Ok(0) => {
+            close(output, line, talk)?;
+            Ok(None)
+        }
+        Ok(count) => {
+            let next = hear(output, line, &came[..count], talk)?;
+            Ok(Some(next))
+        }
         Err(e) => {
             if e.kind() == ErrorKind::Interrupted {
-                return Ok(talk);
+                return Ok(Some(talk));
             }
             Err(e)
         }
@@ -145,19 +136,18 @@ fn blank_line() -> [u8; LINE_MOST] {
     [0u8; LINE_MOST]
 }
 
-// A proved loop ends, so it counts its turns down, from a number that no run uses up.
+// A proved loop ends, so it has a number of turns, one that no run uses up.
 pub fn converse<R: Read, W: Write>(input: &mut R, output: &mut W, bus: Bus) -> io::Result<()> {
     let mut line = blank_line();
     let mut talk = Talk {
         bus,
         held: nothing_held(),
-        open: true,
     };
-    let mut turns = u64::MAX;
-    while turns > 0 && talk.open {
-        let next = listen(input, output, &mut line, talk)?;
-        talk = next;
-        turns -= 1;
+    for _ in 0..u64::MAX {
+        match listen(input, output, &mut line, talk)? {
+            Some(next) => talk = next,
+            None => return Ok(()),
+        }
     }
     Ok(())
 }

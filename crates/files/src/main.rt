@@ -8,17 +8,14 @@ use std::io;
 
 // How many of so many records, from the first on, differ.
 fn differing(records: &[u8], count: u64) -> u64 {
-    let mut left = count;
     let mut at = 8;
     let mut differ: u64 = 0;
-    while left > 0 {
+    for _done in 0..count {
         let text = next_at(records, at);
-        let same = agrees(records, at, text);
-        if !same {
+        if !agrees(records, at, text) {
             differ += 1;
         }
         at = next_at(records, text);
-        left -= 1;
     }
     differ
 }

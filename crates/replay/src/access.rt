@@ -15,8 +15,7 @@ fn passes(offset: usize, width: usize) -> u64 {
 // Whether the record is there and the library answers as it says.
 pub fn same_access<R: Read>(input: &mut R) -> io::Result<bool> {
     let mut record = [0u8; 24];
-    let whole = next(input, &mut record)?;
-    if !whole {
+    if !next(input, &mut record)? {
         return Ok(false);
     }
     let offset = word::read(&record, 0, 8) as usize;

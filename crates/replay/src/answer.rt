@@ -47,8 +47,7 @@ fn same_answer(record: &[u8]) -> bool {
 // Whether the record is there and the library answers as it says.
 pub fn same_placement<R: Read>(input: &mut R) -> io::Result<bool> {
     let mut record = [0u8; RECORD_SIZE];
-    let whole = next(input, &mut record)?;
-    if !whole {
+    if !next(input, &mut record)? {
         return Ok(false);
     }
     Ok(same_answer(&record))

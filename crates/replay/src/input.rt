@@ -7,9 +7,8 @@ const MAGIC: u64 = 0x7961_6c70_6572_6776;
 
 // Fills a buffer; false where the input ends before.
 pub fn next<R: Read>(input: &mut R, bytes: &mut [u8]) -> io::Result<bool> {
-    let length = bytes.len();
     let got = streams::fill(input, bytes)?;
-    Ok(got == length)
+    Ok(got == bytes.len())
 }
 
 // How many records follow: the header has the magic number, the count and the seed; 0 where it is no header.
@@ -23,12 +22,11 @@ pub fn records<R: Read>(input: &mut R) -> io::Result<u64> {
     Ok(0)
 }
 
-// The kind of the next record; 255 where there is none.
-pub fn kind<R: Read>(input: &mut R) -> io::Result<u64> {
+// The kind of the next record, if there is one.
+pub fn kind<R: Read>(input: &mut R) -> io::Result<Option<u64>> {
     let mut number = [0u8; 8];
-    let there = next(input, &mut number)?;
-    if there {
-        return Ok(word::read(&number, 0, 8));
+    if next(input, &mut number)? {
+        return Ok(Some(word::read(&number, 0, 8)));
     }
-    Ok(255)
+    Ok(None)
 }

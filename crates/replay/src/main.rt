@@ -17,23 +17,20 @@ use std::io::Read;
 // Whether the next record is there and the library answers as it says.
 fn same<R: Read>(input: &mut R) -> io::Result<bool> {
     match input::kind(input)? {
-        0 => same_access(input),
-        1 => same_register(input),
-        2 => same_placement(input),
+        Some(0) => same_access(input),
+        Some(1) => same_register(input),
+        Some(2) => same_placement(input),
         _ => Ok(false),
     }
 }
 
 // How many of so many records differ; one that is missing differs too.
 fn differing<R: Read>(input: &mut R, records: u64) -> io::Result<u64> {
-    let mut left = records;
     let mut differ: u64 = 0;
-    while left > 0 {
-        let agrees = same(input)?;
-        if !agrees {
+    for _done in 0..records {
+        if !same(input)? {
             differ += 1;
         }
-        left -= 1;
     }
     Ok(differ)
 }

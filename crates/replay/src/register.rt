@@ -23,12 +23,7 @@ fn bar_now(size: u64, address: u64, probing: u64) -> BarState {
 fn same_write(asked: BarWrite, kind: u64, candidate: u64) -> bool {
     match asked {
         BarWrite::Probe => kind == 0,
-        BarWrite::Relocate(address) => {
-            if kind == 1 {
-                return address == candidate;
-            }
-            false
-        }
+        BarWrite::Relocate(address) => kind == 1 && address == candidate,
     }
 }
 
@@ -51,8 +46,7 @@ fn same_bar(record: &[u8]) -> bool {
 // Whether the record is there and the library answers as it says.
 pub fn same_register<R: Read>(input: &mut R) -> io::Result<bool> {
     let mut record = [0u8; 72];
-    let whole = next(input, &mut record)?;
-    if !whole {
+    if !next(input, &mut record)? {
         return Ok(false);
     }
     Ok(same_bar(&record))

@@ -4,6 +4,7 @@ use address::limits::{BAR_SLOTS, FUNCTION_LIMIT};
 use address::Slot;
 use bar::{MemoryBar, Request};
 use placement::{DeclaredBars, FunctionBars};
+use std::array;
 
 const KIND_NONE: u64 = 0;
 
@@ -25,12 +26,8 @@ fn request_of(kind: u64, address: u64) -> Request {
 
 // Number `part` of what the record has of a slot of a function: kind, size, address.
 fn number_of(record: &[u8], function: usize, slot: usize, part: usize) -> u64 {
-    if function < FUNCTION_LIMIT {
-        if slot < BAR_SLOTS {
-            if part < 3 {
-                return number(record, PLACES + (function * BAR_SLOTS + slot) * 3 + part);
-            }
-        }
+    if function < FUNCTION_LIMIT && slot < BAR_SLOTS && part < 3 {
+        return number(record, PLACES + (function * BAR_SLOTS + slot) * 3 + part);
     }
     0
 }
@@ -46,21 +43,12 @@ fn bar_in(record: &[u8], function: usize, slot: usize) -> MemoryBar {
 }
 
 fn bars_in(record: &[u8], function: usize) -> [MemoryBar; BAR_SLOTS] {
-    let none = MemoryBar::none();
-    let mut bars = [none; BAR_SLOTS];
-    for slot in 0..BAR_SLOTS {
-        let bar = bar_in(record, function, slot);
-        bars[slot] = bar;
-    }
-    bars
+    array::from_fn(|slot| bar_in(record, function, slot))
 }
 
 fn device_in(record: &[u8], function: usize) -> u8 {
     if function < FUNCTION_LIMIT {
-        let device = number(record, DEVICES + function);
-        if device < 256 {
-            return device as u8;
-        }
+        return u8::try_from(number(record, DEVICES + function)).unwrap_or(0);
     }
     0
 }
@@ -75,14 +63,8 @@ fn function_in(record: &[u8], function: usize) -> FunctionBars {
 
 // A function that the record does not use has no BAR, so that all eight can be passed.
 pub fn declared(record: &[u8]) -> DeclaredBars {
-    let first = function_in(record, 0);
-    let mut functions = [first; FUNCTION_LIMIT];
-    for i in 0..FUNCTION_LIMIT {
-        let function = function_in(record, i);
-        functions[i] = function;
-    }
     DeclaredBars {
         count: FUNCTION_LIMIT,
-        functions,
+        functions: array::from_fn(|function| function_in(record, function)),
     }
 }

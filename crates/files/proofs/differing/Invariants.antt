@@ -1,10 +1,6 @@
--- `differing` is safe and ends: each record left can add one to what differs, so the sum stays in the count's range.
--- The measure is how many records are left.
-use Prim.Native.Nat.{◌+◌, ◌≤◌}
+-- `differing`: each record adds one at most to what differs, so the sum stays in the count's range.
+use Prim.Native.Nat.{◌≤◌}
 use Rattle.files.proofs.differing.Given as goal
 
-abbrev pub invariant-loop-left : goal.invariant-loop-left
-invariant-loop-left l = l.differ + l.left ≤ l.count
-
-abbrev pub decreases-loop-left : goal.decreases-loop-left
-decreases-loop-left l = l.left
+abbrev pub invariant-loop-done : goal.invariant-loop-done
+invariant-loop-done l = l.differ ≤ l._done
