@@ -1,5 +1,5 @@
 -- What an effect's answer says of the access: the effect that decides holds it, so it lies between the region's ends.
-use Prim.Native.Nat.{ℕ, ◌-◌, ◌<◌}
+use Prim.Native.Nat.{ℕ, ◌<◌}
 use mathlib.Core.Bool.{Bool, true, false, cond}
 use mathlib.Core.Logic.{⊎_elim}
 use mathlib.Core.Path.{◌≡◌, refl, sym, ◌∙◌}
@@ -8,7 +8,7 @@ use Rattle.std.proofs.Common.{Some, None, Ok, Err}
 use Rattle.word.proofs.Tests.{true_or_false, and_left, and_right}
 use Rattle.word.proofs.Searches.{First, first_or_none}
 use Rattle.refusal.specs.declared.refusal.Refusal.TheVariants as refusal
-use Rattle.capability.specs.Owner.{effect_count, effect_at, start_of, region_start, region_from, touches, holds}
+use Rattle.capability.specs.Owner.{effect_count, effect_at, region_start, touches, holds}
 use Rattle.capability.specs.Touch.{allows, effect_hit, effect_answer, touch_of, answers, decision}
 use Rattle.capability.specs.Answer.{Answer}
 use Rattle.capability.specs.declared.placed.Placed.{Placed}

@@ -1,6 +1,6 @@
 -- The two searches of refusal 11: an earlier effect that overlaps, and a byte that the guest may write.
 use Prim.Native.Nat.{ℕ, ◌+◌, ◌-◌, ◌<◌}
-use mathlib.Core.Bool.{true, false, not}
+use mathlib.Core.Bool.{true, not}
 use mathlib.Core.List.{List}
 use mathlib.Core.Path.{◌≡◌}
 use native.Mathlib.Omega.{arith}
@@ -9,7 +9,7 @@ use lib.Dec.{eqb}
 use lib.ListN.{get_or}
 use Rattle.word.specs.Interval.{overlap}
 use Rattle.word.proofs.Tests.{and_left, and_right}
-use Rattle.word.proofs.Searches.{any_none, any_more, any_found, any_has_lem}
+use Rattle.word.proofs.Searches.{any_found, any_has_lem}
 use Rattle.word.proofs.Intervals.{covers_in, covers_within, overlap_common, common_overlap}
 use Rattle.capability.specs.Effect.{no_effect}
 use Rattle.capability.specs.BadEffect.{clashes, overlaps_earlier, mask_at, covers_writable}
@@ -32,33 +32,12 @@ earlier_found effects n k o w f =
     any_found (λ i. clashes (get_or effects i no_effect) k o w) f.index n f.below
     (rw (eq-eqb e.capability k f.there, common_overlap o w e.offset e.length f.byte f.mine f.its))
 
--- the search for it, an effect at a time
-pub earlier_none : (effects : List Effect) (k o w : ℕ) → overlaps_earlier effects 0 k o w ≡ false
-unfolding overlaps_earlier
-earlier_none effects k o w = any_none (λ i. clashes (get_or effects i no_effect) k o w)
-
-pub earlier_more : (effects : List Effect) (i k o w : ℕ) → overlaps_earlier effects i k o w ≡ false → clashes (get_or effects i no_effect) k o w ≡ false → overlaps_earlier effects (i + 1) k o w ≡ false
-unfolding overlaps_earlier
-earlier_more effects i k o w = any_more (λ i. clashes (get_or effects i no_effect) k o w) i
-
-pub earlier_here : (effects : List Effect) (n i k o w : ℕ) → i < n → clashes (get_or effects i no_effect) k o w ≡ true → overlaps_earlier effects n k o w ≡ true
-unfolding overlaps_earlier
-earlier_here effects n i k o w = any_found (λ i. clashes (get_or effects i no_effect) k o w) i n
-
 -- a byte of the region that the guest may write, likewise
 pub writable_has : (mask : List ℕ) (o w : ℕ) → covers_writable mask o w ≡ true → Writable mask o w
 unfolding covers_writable
 writable_has mask o w e =
     let r = any_has_lem (λ i. not (eqb (mask_at mask (o + i)) 0)) w e in
     record { byte = o + r.0; mine = covers_in o w (o + r.0) (omega arith) (omega (arith, r.1)); bits = eqb-false (mask_at mask (o + r.0)) 0 (not-true (eqb (mask_at mask (o + r.0)) 0) r.2) }
-
-pub writable_none : (mask : List ℕ) (o : ℕ) → covers_writable mask o 0 ≡ false
-unfolding covers_writable
-writable_none mask o = any_none (λ i. not (eqb (mask_at mask (o + i)) 0))
-
-pub writable_more : (mask : List ℕ) (o i : ℕ) → covers_writable mask o i ≡ false → mask_at mask (o + i) ≡ 0 → covers_writable mask o (i + 1) ≡ false
-unfolding covers_writable
-writable_more mask o i d e = any_more (λ i. not (eqb (mask_at mask (o + i)) 0)) i d (rw (eq-eqb (mask_at mask (o + i)) 0 e))
 
 pub writable_here : (mask : List ℕ) (o w i : ℕ) → i < w → (mask_at mask (o + i) ≡ 0 → ⊥) → covers_writable mask o w ≡ true
 unfolding covers_writable

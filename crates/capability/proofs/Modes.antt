@@ -3,23 +3,17 @@ use Prim.Native.Nat.{ℕ, ◌<◌}
 use mathlib.Core.Bool.{true, false}
 use mathlib.Core.List.{List}
 use mathlib.Core.Path.{◌≡◌}
-use native.Mathlib.Omega.{arith}
 use lib.ListN.{get_or}
 use Rattle.std.proofs.Common.{Some, None}
 use Rattle.word.specs.Interval.{covers}
 use Rattle.word.specs.Search.{any_below}
-use Rattle.word.proofs.Searches.{First, any_never, first_is, first_none, found_first, none_never}
+use Rattle.word.proofs.Searches.{First, any_never, first_is, first_none}
+use Rattle.word.proofs.Listed.{some_first, none_first}
 use Rattle.capability.specs.Size.{header_size}
 use Rattle.capability.specs.Owner.{capability_count, start_of, owner_of}
 use Rattle.capability.specs.Mode.{in_capability, holder_of, body_mode, byte_mode_of}
 use Rattle.capability.specs.declared.placed.Placed.{Placed}
 use Rattle.capability.specs.declared.byte_mode.ByteMode.TheVariants as mode
-
-same_index : (a b : ℕ) → Some a ≡ Some b → a ≡ b
-same_index a b e = cc
-
-not_nobody : (a : ℕ) → Some a ≡ None → ⊥
-not_nobody a e = let z : ◌≡◌ {A = ℕ} 0 1 = cc in omega arith
 
 module _ (p : Placed) (j : ℕ) where
   abbrev many : ℕ
@@ -38,12 +32,12 @@ module _ (p : Placed) (j : ℕ) where
 
   pub nobody_outside : holder_of p j ≡ None → (k : ℕ) → k < many → in_capability p j k ≡ false
   unfolding holder_of
-  nobody_outside e = none_never Some None same_index not_nobody (in_capability p j) many e
+  nobody_outside e = none_first (in_capability p j) many e
 
   -- the holder is the first capability that covers the byte
   pub holder_first : (i : ℕ) → holder_of p j ≡ Some i → First (in_capability p j) many i
   unfolding holder_of
-  holder_first i e = found_first Some None same_index not_nobody (in_capability p j) many i e
+  holder_first i e = some_first (in_capability p j) many i e
 
   module _ (mask : List ℕ) where
     pub mode_outside : holder_of p j ≡ None → byte_mode_of p mask j ≡ None

@@ -8,7 +8,7 @@ use Rattle.word.proofs.Tables.{get_or_table, filled_at, filled_past}
 use Rattle.address.specs.Limits.{capability_room, effect_room}
 use Rattle.capability.specs.Declaration.{count_of, effect_count_of, declared_effect}
 use Rattle.capability.specs.Blank.{no_placed_capability, no_placed_effect, nothing_placed}
-use Rattle.capability.specs.Layout.{placed_capability, placed_effect, placed_of, placed_for, answer_of, layout_of, repeated_at, past_at, placed_or_nothing}
+use Rattle.capability.specs.Layout.{placed_capability, placed_effect, placed_of, placed_for, answer_of, layout_of, placed_or_nothing}
 use Rattle.capability.specs.Owner.{capability_count, effect_count}
 use Rattle.capability.specs.declared.declared.Capabilities.{Capabilities}
 use Rattle.capability.specs.declared.layout.LayoutRefusal.{LayoutRefusal}

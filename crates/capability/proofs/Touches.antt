@@ -11,11 +11,12 @@ use Rattle.word.proofs.Tests.{true_or_false, both, never}
 use Rattle.word.proofs.Searches.{First, all_each, each_all, first_or_none}
 use Rattle.refusal.specs.declared.refusal.Refusal.{Refusal}
 use Rattle.refusal.specs.declared.refusal.Refusal.TheVariants as refusal
+use Rattle.word.proofs.Listed.{some_first, none_first}
 use Rattle.capability.specs.Owner.{effect_count, effect_at, in_region, owner_of, touches, holds, first_touched}
 use Rattle.capability.specs.Touch.{Touch, allows, answers, is_effect, effect_answer, by_owner, touch_of, decision}
 use Rattle.capability.specs.declared.placed.Placed.{Placed}
 use Rattle.capability.proofs.Regions.{touched_at, untouched_at, held_at, at_held}
-use Rattle.capability.proofs.Owners.{owner_is, owner_first, owner_none, owner_never, effect_first, effect_never}
+use Rattle.capability.proofs.Owners.{owner_is, owner_first, owner_none, owner_never}
 
 nobody_is : (x : Option ℕ) → is_none x ≡ true → x ≡ None
 nobody_is None e = refl
@@ -79,11 +80,11 @@ module _ (p : Placed) (o w : ℕ) where
   -- the answer of the walk
   pub touch_effect : (i : ℕ) (write : Bool) → first_touched p o w ≡ Some i → touch_of p o w write ≡ decision p o w write i
   unfolding first_touched
-  touch_effect i write e = touch_decision i (effect_first (touches p o w) many i e) write
+  touch_effect i write e = touch_decision i (some_first (touches p o w) many i e) write
 
   pub touch_nobody : (write : Bool) → first_touched p o w ≡ None → touch_of p o w write ≡ Ok None
   unfolding first_touched
-  touch_nobody write e = touch_untouched write (effect_never (touches p o w) many e)
+  touch_nobody write e = touch_untouched write (none_first (touches p o w) many e)
 
   -- the only refusal is 19
   decided_refusal : (t : Bool) (h : Touch) (r : Refusal) → cond t h (Err refusal.BadTouch) ≡ Err r → (t ≡ true → h ≡ Err r → ⊥) → r ≡ refusal.BadTouch

@@ -1,5 +1,5 @@
 -- Access to an effect, refusal 19 (document 01, "Access and reset": "an access that touches an effect follows 19, or is answered with capability id, region, offset from the capability's start").
-use Rattle.std.specs.Prelude.{is_none, Option, Some, None, Result, Ok, Err, ℕ, ◌+◌, ◌-◌, Bool, true, false, ◌&&◌, ◌||◌, cond, eqb}
+use Rattle.std.specs.Prelude.{is_none, Option, Some, None, Result, Ok, Err, ℕ, ◌+◌, ◌-◌, Bool, false, ◌&&◌, ◌||◌, cond, eqb}
 use Rattle.refusal.specs.declared.refusal.Refusal.{Refusal}
 use Rattle.refusal.specs.declared.refusal.Refusal.TheVariants as refusal
 use Rattle.word.specs.Search.{all_below}

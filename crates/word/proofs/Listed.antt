@@ -12,7 +12,7 @@ use Rattle.std.specs.List.{list_any, find, range_with_len}
 use Rattle.std.proofs.lemmas.List.FromFn.{length-range_with_len, get_or-range_with_len}
 use Rattle.word.specs.Search.{any_below, first_of}
 use Rattle.word.proofs.Tests.{both, or_cases, same_test}
-use Rattle.word.proofs.Searches.{First, any_found, any_has_lem, first_or_none, first_is, first_none}
+use Rattle.word.proofs.Searches.{First, any_found, any_has_lem, first_or_none, first_is, first_none, found_first, none_never}
 
 module _ {A : Type 0} (test : A → Bool) (d : A) where
   any_at : (l : List A) (i : ℕ) → i < length l → test (get_or l i d) ≡ true → list_any test l ≡ true
@@ -70,3 +70,17 @@ module _ (test : ℕ → Bool) (n : ℕ) where
       ap Some (range_at r.0 r.1.below) ∙ sym (first_is Some None test n r.0 r.1))
       (λ f. find_nothing test 0 (range_with_len 0 n) (λ k h. let b : k < n = omega (arith, length-range_with_len 0 n) in at_range k b ∙ f k b) ∙ sym (first_none Some None test n f))
       (first_or_none test n)
+
+-- what a search for an index found tells where it stopped
+module _ (p : ℕ → Bool) (n : ℕ) where
+  same_index : (a b : ℕ) → Some a ≡ Some b → a ≡ b
+  same_index a b e = cc
+
+  no_index : (a : ℕ) → Some a ≡ None → ⊥
+  no_index a e = let z : ◌≡◌ {A = ℕ} 0 1 = cc in omega arith
+
+  pub some_first : (i : ℕ) → first_of Some None p n ≡ Some i → First p n i
+  some_first = found_first Some None same_index no_index p n
+
+  pub none_first : first_of Some None p n ≡ None → (k : ℕ) → k < n → p k ≡ false
+  none_first = none_never Some None same_index no_index p n

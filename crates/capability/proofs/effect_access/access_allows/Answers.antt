@@ -1,5 +1,5 @@
 -- `access_allows`: a number that has no access allows neither direction.
-use mathlib.Core.Path.{◌≡◌, sym, ◌∙◌}
+use mathlib.Core.Path.{sym, ◌∙◌}
 use Rattle.capability.proofs.Accesses.{number_is, refused_number}
 use Rattle.capability.proofs.effect_access.access_allows.Goals as goal
 

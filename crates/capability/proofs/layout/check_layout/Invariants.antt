@@ -1,5 +1,5 @@
 -- `check_layout`: the first i capabilities are without fault, and the next starts at `start`, which is not far.
-use Prim.Native.Nat.{ℕ, ◌-◌, ◌<◌, ◌≤◌}
+use Prim.Native.Nat.{ℕ, ◌<◌, ◌≤◌}
 use mathlib.Core.Path.{◌≡◌}
 use Rattle.capability.specs.Declaration.{length_at}
 use Rattle.capability.specs.Offset.{offset_at}

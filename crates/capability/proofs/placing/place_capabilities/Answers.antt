@@ -1,6 +1,5 @@
 use mathlib.Core.Path.{◌≡◌, sym, ap, ◌∙◌}
 use native.Mathlib.Omega.{arith}
-use borrow.Author.Count.{falls}
 use borrow.Author.Rules.{rules}
 use Rattle.word.specs.Table.{table}
 use Rattle.word.proofs.Tables.{filled_none, filled_more}

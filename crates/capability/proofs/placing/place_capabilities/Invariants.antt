@@ -1,5 +1,5 @@
 -- `place_capabilities`: the first i places are filled, and the next capability starts at `start`, which is not far.
-use Prim.Native.Nat.{◌-◌, ◌≤◌}
+use Prim.Native.Nat.{◌≤◌}
 use mathlib.Core.Path.{◌≡◌}
 use Rattle.word.specs.Table.{filled}
 use Rattle.address.specs.Limits.{capability_room}

@@ -1,5 +1,4 @@
 -- `place_effects`: the first i places are filled.
-use Prim.Native.Nat.{◌-◌, ◌≤◌}
 use mathlib.Core.Path.{◌≡◌}
 use lib.ListN.{get_or}
 use Rattle.word.specs.Table.{filled}

@@ -1,7 +1,6 @@
 -- `copy_of` has copied k bytes after k turns.
-use Prim.Native.Nat.{◌≤◌, ◌-◌}
 use mathlib.Core.Path.{◌≡◌}
-use lib.ListN.{length, get_or}
+use lib.ListN.{get_or}
 use Rattle.word.specs.Table.{filled}
 use Rattle.capability.specs.Size.{body_most}
 use Rattle.capability.proofs.snapshot.copy_of.Given as goal

@@ -3,7 +3,7 @@ use mathlib.Core.Path.{◌≡◌, ◌∙◌}
 use native.Mathlib.Omega.{arith}
 use Rattle.word.proofs.Tables.{blank_filled, filled_more}
 use Rattle.capability.specs.Size.{body_most}
-use Rattle.capability.specs.Snapshot.{body_length, snapshot_of}
+use Rattle.capability.specs.Snapshot.{snapshot_of}
 use Rattle.capability.proofs.Views.{body_most_lem}
 use Rattle.capability.proofs.snapshot.snapshot_of.Goals as goal
 use Rattle.capability.proofs.snapshot.snapshot_of.Goals.{After-body_length-length}

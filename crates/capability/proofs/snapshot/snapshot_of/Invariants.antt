@@ -1,5 +1,5 @@
 -- `snapshot_of` has copied k bytes after k turns.
-use Prim.Native.Nat.{◌+◌, ◌≤◌, ◌-◌}
+use Prim.Native.Nat.{◌+◌}
 use mathlib.Core.Path.{◌≡◌}
 use lib.ListN.{get_or}
 use Rattle.word.specs.Table.{filled}

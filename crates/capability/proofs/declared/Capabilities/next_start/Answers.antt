@@ -1,9 +1,8 @@
 use mathlib.Core.Path.{◌≡◌, sym, ap, ◌∙◌}
 use native.Mathlib.Omega.{arith}
-use borrow.Author.Count.{falls}
 use borrow.Author.Rules.{rules}
 use Rattle.capability.specs.Declaration.{length_at}
-use Rattle.capability.specs.Offset.{next_multiple, capability_end, offset_at, end_at}
+use Rattle.capability.specs.Offset.{next_multiple, capability_end, end_at}
 use Rattle.capability.proofs.Offsets.{next_near, offset_first, offset_next}
 use Rattle.capability.proofs.declared.Capabilities.next_start.Goals as goal
 

@@ -1,5 +1,5 @@
 -- `next_start`: after i capabilities the next starts at `start`, which is not far.
-use Prim.Native.Nat.{◌+◌, ◌-◌, ◌*◌, ◌≤◌}
+use Prim.Native.Nat.{◌+◌, ◌*◌, ◌≤◌}
 use mathlib.Core.Path.{◌≡◌}
 use Rattle.address.specs.Layout.{standard_header_end}
 use Rattle.capability.specs.Declaration.{length_at}
