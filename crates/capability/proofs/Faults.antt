@@ -35,8 +35,3 @@ module _ (mask : List ℕ) (d : Capabilities) (o w : ℕ) where
   fault_bad (late h) = simp (lt-ltb (header_size + length_at d (latest d)) (o + w) h, or-true)
   fault_bad (overlapping f) = simp (earlier_found d.effects (effect_count_of d) (latest d) o w f, or-true)
   fault_bad (writable f) = simp (writable_found mask o w f, or-true)
-
-  -- after four tests that fail the fifth decides
-  pub bad_last : (w ≡ 0 → ⊥) → header_size ≤ o → o + w ≤ header_size + length_at d (latest d) → overlaps_earlier d.effects (effect_count_of d) (latest d) o w ≡ false → effect_bad mask d o w ≡ covers_writable mask o w
-  unfolding effect_bad
-  bad_last a b c e = rw (ne_eqb w 0 a, le-ltb o header_size b, le-ltb (header_size + length_at d (latest d)) (o + w) c, e)

@@ -64,27 +64,19 @@ fn latest_of(declared: Capabilities) -> u8
 }
 
 // Whether the latest capability refuses an effect of `length` bytes from `offset` on.
+#[tactic(auto, unfolding(crate::specs::BadEffect::effect_bad))]
 fn effect_bad(mask: &[u8], declared: Capabilities, offset: u8, length: u8) -> bool
     ensures { result ≡ effect_bad mask.now declared offset length }
 {
-    if length == 0 {
-        return true;
-    }
-    if (offset as usize) < CAPABILITY_HEADER_SIZE {
-        return true;
-    }
     let capability = latest_of(declared);
     let body = declared.length_at(capability as usize);
-    if CAPABILITY_HEADER_SIZE + (body as usize) < (offset as usize) + (length as usize) {
-        return true;
-    }
     let effects = declared.effects;
     let count = declared.declared_effects();
-    let overlaps = overlaps_earlier(effects, count, capability, offset, length);
-    if overlaps {
-        return true;
-    }
-    covers_writable(mask, offset, length)
+    length == 0
+        || (offset as usize) < CAPABILITY_HEADER_SIZE
+        || CAPABILITY_HEADER_SIZE + (body as usize) < (offset as usize) + (length as usize)
+        || overlaps_earlier(effects, count, capability, offset, length)
+        || covers_writable(mask, offset, length)
 }
 
 impl Capabilities {

@@ -52,6 +52,7 @@ fn body_mode(owner: Option<usize>, mask: u8) -> ByteMode
 }
 
 // The mode of a byte, by the write masks of the whole config space; none outside every capability.
+#[tactic(auto, unfolding(crate::specs::Mode::byte_mode_of))]
 pub fn mode_of(placed: Placed, mask: &[u8], offset: ConfigOffset) -> Option<ByteMode>
     ensures { result ≡ byte_mode_of placed mask.now offset.0 }
 {

@@ -19,6 +19,7 @@ pub struct EffectHit {
 }
 
 // Whether an effect with this access number allows a direction.
+#[tactic(auto, using(crate::proofs::Accesses::number_is, crate::proofs::Accesses::refused_number))]
 fn access_allows(access: u8, write: bool) -> bool
     ensures { result ≡ allows write access }
 {
@@ -29,6 +30,7 @@ fn access_allows(access: u8, write: bool) -> bool
 }
 
 // The answer at the effect that the access touches first.
+#[tactic(auto, unfolding(crate::specs::Touch::decision))]
 fn decided(
     placed: Placed,
     offset: u16,
@@ -38,26 +40,22 @@ fn decided(
 ) -> Result<Option<EffectHit>, Refusal>
     ensures { result ≡ decision placed offset width write i }
 {
-    let inside = effect_holds(placed, offset as usize, width, i);
     let region = effect_at(placed, i);
-    let allowed = access_allows(region.access, write);
-    if inside {
-        if allowed {
-            let capability = capability_in(placed, region.capability as usize);
-            return Ok(Some(EffectHit {
-                capability_id: capability.id,
-                region,
-                offset: offset.saturating_sub(capability.offset.value()),
-                region_offset: (offset as usize).saturating_sub(region_start(
-                    placed, region,
-                )) as u16,
-            }));
-        }
+    if effect_holds(placed, offset as usize, width, i) && access_allows(region.access, write) {
+        let capability = capability_in(placed, region.capability as usize);
+        let inside = (offset as usize).saturating_sub(region_start(placed, region));
+        return Ok(Some(EffectHit {
+            capability_id: capability.id,
+            region,
+            offset: offset.saturating_sub(capability.offset.value()),
+            region_offset: inside as u16,
+        }));
     }
     Err(Refusal::BadTouch)
 }
 
 // An access of `width` bytes, checked before: untouched, answered by the effect that owns all of it, or refused.
+#[tactic(auto, using(crate::proofs::Touches::touch_effect, crate::proofs::Touches::touch_nobody))]
 pub fn effect_for_access(
     placed: Placed,
     offset: ConfigOffset,

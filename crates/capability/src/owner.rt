@@ -94,6 +94,7 @@ pub(crate) fn first_touched(placed: Placed, offset: usize, width: usize) -> Opti
 }
 
 // The effect that owns a byte, by its index.
+#[tactic(auto, using(crate::proofs::Owners::touched_byte))]
 pub fn owner_of(placed: Placed, offset: ConfigOffset) -> Option<usize>
     ensures { result ≡ owner_of placed offset.0 }
 {
