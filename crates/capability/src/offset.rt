@@ -22,6 +22,7 @@ pub(crate) fn next_offset(start: usize, body: u8) -> usize
 }
 
 // An offset that is in the space.
+#[tactic(auto, using(address::proofs::Offsets::offset_good, address::proofs::Offsets::offset_is))]
 pub(crate) fn offset_in(space: u16, value: usize) -> ConfigOffset
     requires { value < space }
     ensures { result ≡ offset value }
@@ -31,6 +32,7 @@ pub(crate) fn offset_in(space: u16, value: usize) -> ConfigOffset
 
 impl Capabilities {
     // Where one more capability would start.
+    #[tactic(auto, using(crate::proofs::Offsets::offset_first, crate::proofs::Offsets::offset_next, crate::proofs::Offsets::next_near))]
     pub fn next_start(self) -> usize
         ensures { (result ≡ offset_at (length_at self) (count_of self)) × (result ≤ 0x10000) }
     {

@@ -68,6 +68,7 @@ fn effect_touched(placed: Placed, offset: usize, width: usize, i: usize) -> bool
 }
 
 // Whether every byte of it does.
+#[tactic(auto, using(crate::proofs::Regions::held_none, crate::proofs::Regions::held_before, crate::proofs::Regions::held_test))]
 pub(crate) fn effect_holds(placed: Placed, offset: usize, width: usize, i: usize) -> bool
     ensures { result ≡ holds placed offset width i }
 {

@@ -16,6 +16,7 @@ use address::config_layout::CONFIG_STANDARD_HEADER_END;
 use address::limits::{CAPABILITY_LIMIT, EFFECT_LIMIT};
 
 // The first `count` capabilities at their places, blanks after.
+#[tactic(auto, using(word::proofs::Tables::filled_none, word::proofs::Tables::filled_more, crate::proofs::Offsets::offset_first, crate::proofs::Offsets::offset_next, crate::proofs::Offsets::next_near), unfolding(word::specs::Table::table))]
 fn place_capabilities(
     space: u16,
     declared: Capabilities,
@@ -53,6 +54,7 @@ fn place_effect(effect: Effect) -> PlacedEffect
 }
 
 // The first `count` effects, blanks after.
+#[tactic(auto, using(word::proofs::Tables::filled_none, word::proofs::Tables::filled_more), unfolding(word::specs::Table::table))]
 fn place_effects(effects: [Effect; EFFECT_LIMIT], count: usize) -> [PlacedEffect; EFFECT_LIMIT]
     requires { count ≤ effect_room }
     ensures { result ≡ filled effect_room count (λ j. placed_effect (get_or effects j no_effect)) no_placed_effect }

@@ -38,6 +38,7 @@ fn blank() -> [u8; CAPABILITY_BODY_MAX_SIZE]
 }
 
 // The body of the capability at an index, as far as the image reaches.
+#[tactic(auto, using(crate::proofs::Views::body_most_lem, word::proofs::Tables::blank_filled, word::proofs::Tables::filled_more))]
 pub fn snapshot_of(placed: Placed, image: &[u8], i: usize) -> Snapshot
     ensures { result ≡ snapshot_of placed image.now i }
 {
@@ -54,6 +55,7 @@ pub fn snapshot_of(placed: Placed, image: &[u8], i: usize) -> Snapshot
 }
 
 // A slice's bytes, as many as a body may have.
+#[tactic(auto, using(word::proofs::Tables::blank_filled, word::proofs::Tables::filled_more))]
 pub(crate) fn copy_of(bytes: &[u8]) -> Snapshot
     ensures { result ≡ copy_of bytes.now }
 {

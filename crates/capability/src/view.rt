@@ -15,6 +15,7 @@ pub struct ViewCopy {
 }
 
 // The body of the capability at an index in the live image or in the power-on image, each `space` bytes long. An absent view differs from an empty body.
+#[tactic(auto, using(crate::proofs::Views::body_most_lem), unfolding(crate::specs::View::view_of, crate::specs::View::viewed, crate::specs::View::body_in))]
 pub fn view_of<'a>(
     placed: Placed,
     index: usize,
