@@ -16,14 +16,13 @@ use Rattle.config.proofs.Kept.{same_refl}
 use Rattle.placement.specs.Keys.{key_count, bars_of}
 use Rattle.placement.specs.Order.{range_at}
 use Rattle.placement.specs.Place.{no_range}
-use Rattle.std.specs.Prelude.{Ok}
+use Rattle.std.specs.Prelude.{is_ok, Ok}
 use Rattle.placement.proofs.Answers.{placement_resolved, placement_end}
 use Rattle.declaration.specs.Good.{Bytes, Within, Good}
 use Rattle.declaration.specs.declared.answer.Declaration.{Declaration}
-use Rattle.declaration.specs.declared.answer.DeclarationAnswer.TheVariants as answer
 use Rattle.declaration.proofs.Goods.{accepted_good}
 use Rattle.bus.specs.Bus.{range_on}
-use Rattle.bus.specs.Start.{declared_function, declared_bars, placement_in, addresses_in, start_of}
+use Rattle.bus.specs.Start.{declared_function, declared_bars, placement_in, addresses_in, bus_given, start_of}
 use Rattle.bus.specs.Sound.{started_function, started_bus, Clear, SoundFunction, Sound, SoundStart}
 use Rattle.bus.specs.Outcome.{declaration_of}
 use Rattle.bus.proofs.Outcomes.{start_accepted}
@@ -92,7 +91,7 @@ module _ (d : Declaration) (g : Good d) (e : placement_in d ≡ Ok (addresses_in
       }
 
 -- the theorem: an accepted file of bytes starts a sound bus, with every function as at power-on
-pub start_sound : (l : Limits) → Within l → (file : List ℕ) → Bytes file → (start_of l file).answer ≡ answer.Accepted → SoundStart (declaration_of l file) (start_of l file).bus
+pub start_sound : (l : Limits) → Within l → (file : List ℕ) → Bytes file → is_ok (start_of l file) ≡ true → SoundStart (declaration_of l file) (bus_given (start_of l file))
 start_sound l w file b e =
     let a = start_accepted l file e in
-    rw a.bus (started_start (declaration_of l file) (accepted_good l w file b a.declared) a.placed)
+    rw a.bus (started_start (declaration_of l file) (accepted_good l w file b (declaration_of l file) a.declared) a.placed)

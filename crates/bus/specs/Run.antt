@@ -1,13 +1,13 @@
 -- The Run case of document 01, from the bytes of its file to the bus that they start (proofs/RunCase.antt proves `RunCase`).
-use Rattle.std.specs.Prelude.{ℕ, List, [], ◌∷◌, ◌++◌, ◌≡◌, length, replicate}
+use Rattle.std.specs.Prelude.{ℕ, List, [], ◌∷◌, ◌++◌, ◌≡◌, true, length, replicate, is_ok, Result}
 use Rattle.address.specs.Limits.{limits}
 use Rattle.bar.specs.Range.{range}
 use Rattle.bar.specs.declared.range.Range.{Range}
-use Rattle.declaration.specs.declared.answer.DeclarationAnswer.TheVariants as answer
+use Rattle.declaration.specs.declared.answer.DeclarationRefusal.{DeclarationRefusal}
 use Rattle.placement.specs.Place.{no_range}
 use Rattle.bus.specs.Bus.{ranges_on}
-use Rattle.bus.specs.Start.{start_of}
-use Rattle.bus.specs.declared.power_up.Started.{Started}
+use Rattle.bus.specs.Start.{bus_given, start_of}
+use Rattle.bus.specs.declared.state.Bus.{Bus}
 
 -- "Aperture 0x80000000 to 0x80010000"
 abbrev pub aperture_field : List ℕ
@@ -30,12 +30,12 @@ run_file = aperture_field ++ function_field 3 ++ bar_field 0 0 0x10 0 ++ bar_fie
 abbrev pub run_ranges : List Range
 run_ranges = range 0x80001000 0x1000 ∷ range 0x80000000 0x1000 ∷ replicate 4 no_range ++ (range 0x80004000 0x4000 ∷ replicate 41 no_range)
 
-pub record Runs (s : Started) : Type 0 where
-  pub accepted : s.answer ≡ answer.Accepted
-  pub aperture : s.bus.aperture ≡ record { start = 0x80000000; end = 0x80010000 }
-  pub count : s.bus.count ≡ 2
-  pub devices : s.bus.devices ≡ 3 ∷ 5 ∷ replicate 6 0
-  pub ranges : ranges_on s.bus ≡ run_ranges
+pub record Runs (s : Result Bus DeclarationRefusal) : Type 0 where
+  pub accepted : is_ok s ≡ true
+  pub aperture : (bus_given s).aperture ≡ record { start = 0x80000000; end = 0x80010000 }
+  pub count : (bus_given s).count ≡ 2
+  pub devices : (bus_given s).devices ≡ 3 ∷ 5 ∷ replicate 6 0
+  pub ranges : ranges_on (bus_given s) ≡ run_ranges
 
 abbrev pub RunCase : Type 0
 RunCase = (length run_file ≡ 114) × Runs (start_of limits run_file)

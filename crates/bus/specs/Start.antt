@@ -1,6 +1,6 @@
 -- A bus from the bytes of a file (document 01): the declaration's answer, then placement, then power-on images.
-use Rattle.std.specs.Prelude.{ℕ, List, get_or, Ok, Err}
-use Rattle.refusal.specs.Refusal.{number_of}
+use Rattle.std.specs.Prelude.{ℕ, List, get_or, Result, Ok, Err}
+use Rattle.refusal.specs.declared.refusal.Refusal.{Refusal}
 use Rattle.word.specs.Table.{table, filled}
 use Rattle.address.specs.Layout.{config_space_size, bar_count}
 use Rattle.address.specs.Limits.{Limits, function_room}
@@ -19,15 +19,13 @@ use Rattle.placement.specs.Answer.{Placement, placement_of, addresses_given}
 use Rattle.placement.specs.declared.declared_bars.FunctionBars.{FunctionBars}
 use Rattle.placement.specs.declared.declared_bars.DeclaredBars.{DeclaredBars}
 use Rattle.declaration.specs.Blank.{no_function}
-use Rattle.declaration.specs.Answer.{declared_by}
+use Rattle.declaration.specs.Answer.{refused_at, declared_by}
 use Rattle.declaration.specs.declared.answer.Declaration.{Declaration}
-use Rattle.declaration.specs.declared.answer.DeclarationAnswer.{DeclarationAnswer}
-use Rattle.declaration.specs.declared.answer.DeclarationAnswer.TheVariants as answer
+use Rattle.declaration.specs.declared.answer.DeclarationRefusal.{DeclarationRefusal}
 use Rattle.declaration.specs.declared.answer.Place.{Place}
 use Rattle.declaration.specs.declared.answer.Place.TheVariants as place
 use Rattle.bus.specs.Bus.{no_function_state, empty_bus, key_of}
 use Rattle.bus.specs.declared.state.Bus.{Bus}
-use Rattle.bus.specs.declared.power_up.Started.{Started}
 
 abbrev pub declared_function : Declaration → ℕ → Function
 declared_function d k = get_or d.functions k no_function
@@ -65,14 +63,19 @@ functions_of d addresses = filled function_room d.count (λ k. function_start (d
 unfoldable pub bus_of : Declaration → List ℕ → Bus
 bus_of d addresses = record { aperture = d.aperture; devices = devices_of d; functions = functions_of d addresses; count = d.count }
 
+-- a refusal with its place
+abbrev pub refused_start : Refusal → Place → Result Bus DeclarationRefusal
+refused_start refusal p = Err (refused_at refusal p)
+
 -- "Refusals 1 to 17 leave a bus with no functions and no aperture."
-abbrev pub refused_start : ℕ → Place → Started
-refused_start number p = record { answer = answer.Refused number p; bus = empty_bus }
+abbrev pub bus_given : Result Bus DeclarationRefusal → Bus
+bus_given (Ok b) = b
+bus_given (Err e) = empty_bus
 
 -- "Then placement, 14 to 17", with device and slot
-abbrev pub placed_start : Declaration → Placement → Started
-placed_start d (Ok addresses) = record { answer = answer.Accepted; bus = bus_of d addresses }
-placed_start d (Err e) = refused_start (number_of e.refusal) (place.Index e.device e.slot)
+abbrev pub placed_start : Declaration → Placement → Result Bus DeclarationRefusal
+placed_start d (Ok addresses) = Ok (bus_of d addresses)
+placed_start d (Err e) = refused_start e.refusal (place.Index e.device e.slot)
 
 -- where placement puts the BARs of a declaration
 abbrev pub placement_in : Declaration → Placement
@@ -82,12 +85,12 @@ placement_in d = placement_of d.aperture (declared_bars d)
 abbrev pub addresses_in : Declaration → List ℕ
 addresses_in d = addresses_given (placement_in d)
 
-unfoldable pub start_declared : Declaration → Started
+unfoldable pub start_declared : Declaration → Result Bus DeclarationRefusal
 start_declared d = placed_start d (placement_in d)
 
-abbrev pub start_answered : Declaration → DeclarationAnswer → Started
-start_answered d answer.Accepted = start_declared d
-start_answered d (answer.Refused number p) = refused_start number p
+abbrev pub start_answered : Result Declaration DeclarationRefusal → Result Bus DeclarationRefusal
+start_answered (Ok d) = start_declared d
+start_answered (Err e) = Err e
 
-unfoldable pub start_of : Limits → List ℕ → Started
-start_of l file = start_answered (declared_by l file).declaration (declared_by l file).answer
+unfoldable pub start_of : Limits → List ℕ → Result Bus DeclarationRefusal
+start_of l file = start_answered (declared_by l file)

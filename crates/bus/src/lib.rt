@@ -13,7 +13,7 @@ mod write_access;
 pub use bus_reset::{BusResetAnswer, BusResetDone, reset};
 pub use in_place::{BusWrite, reset_in_place, write_in_place};
 pub use memory_lookup::{LookupAnswer, lookup};
-pub use power_up::{Started, start};
+pub use power_up::start;
 pub use ranges::ranges_on;
 pub use read_access::read;
 pub use state::{Bus, function_at, index_of};

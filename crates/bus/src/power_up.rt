@@ -3,7 +3,7 @@ ghost use Rattle.std.specs.Prelude.{◌≡◌, ◌<◌};
 ghost use Rattle.address.specs.Layout.{bar_count};
 ghost use Rattle.address.specs.Kinds.{slot};
 ghost use Rattle.address.specs.Limits.{limits, function_room};
-ghost use Rattle.bus.specs.Start.{function_bars, declared_bars, bars_placed, function_start, devices_of, functions_of, bus_of, refused_start, start_declared, start_of};
+ghost use Rattle.bus.specs.Start.{function_bars, declared_bars, bars_placed, function_start, devices_of, functions_of, bus_of, start_declared, start_of};
 
 use crate::state::{Bus, no_function_state};
 use address::Slot;
@@ -12,16 +12,9 @@ use address::limits::{BAR_SLOTS, FUNCTION_LIMIT};
 use bar::{BarState, Plan};
 use capability::{Placed, layout_capabilities};
 use config::{Function, FunctionState, PowerOn};
-use declaration::{Declaration, DeclarationAnswer, Place, read_declaration};
+use declaration::{Declaration, DeclarationRefusal, Place, read_declaration};
 use placement::{DeclaredBars, FunctionBars, KEY_COUNT, resolve_bar_addresses};
 use std::array;
-
-// Accepted with the bus, or refused with number and place and the empty bus.
-#[derive(Clone, Copy)]
-pub struct Started {
-    pub answer: DeclarationAnswer,
-    pub bus: Bus,
-}
 
 fn function_bars(function: Function) -> FunctionBars
     ensures { result ≡ function_bars function }
@@ -124,49 +117,27 @@ fn bus_of(declaration: Declaration, addresses: [u64; KEY_COUNT]) -> Bus
     }
 }
 
-fn refused_start(number: u8, place: Place) -> Started
-    ensures { result ≡ refused_start number place }
-{
-    let bus = Bus::none();
-    Started {
-        answer: DeclarationAnswer::Refused { number, place },
-        bus,
-    }
-}
-
 // Placement, then power-on images.
-fn start_declared(declaration: Declaration) -> Started
+#[tactic(auto, unfolding(crate::specs::Start::start_declared))]
+fn start_declared(declaration: Declaration) -> Result<Bus, DeclarationRefusal>
     ensures { result ≡ start_declared declaration }
 {
     match resolve_bar_addresses(declaration.aperture, declared_bars(declaration)) {
-        Ok(addresses) => {
-            let bus = bus_of(declaration, addresses);
-            Started {
-                answer: DeclarationAnswer::Accepted,
-                bus,
-            }
-        }
-        Err(refused) => refused_start(
-            refused.refusal.number(),
-            Place::Index {
+        Ok(addresses) => Ok(bus_of(declaration, addresses)),
+        Err(refused) => Err(DeclarationRefusal {
+            refusal: refused.refusal,
+            place: Place::Index {
                 device: refused.device,
                 index: refused.slot as usize,
             },
-        ),
+        }),
     }
 }
 
 // Starts a bus from a declaration file.
-pub fn start(file: &[u8]) -> Started
+#[tactic(auto, unfolding(crate::specs::Start::start_of))]
+pub fn start(file: &[u8]) -> Result<Bus, DeclarationRefusal>
     ensures { result ≡ start_of limits file.now }
 {
-    let declared = read_declaration(file);
-    let answer = declared.answer;
-    match answer {
-        DeclarationAnswer::Accepted => {
-            let declaration = declared.declaration;
-            start_declared(declaration)
-        }
-        DeclarationAnswer::Refused { number, place } => refused_start(number, place),
-    }
+    start_declared(read_declaration(file)?)
 }

@@ -3,7 +3,6 @@
 
 mod talk;
 
-use declaration::DeclarationAnswer;
 use std::fs::File;
 use std::io::{Read, Write};
 use std::{env, io};
@@ -22,17 +21,9 @@ fn open<R: Read, W: Write>(input: &mut R, output: &mut W, file: &[u8]) -> io::Re
     if FILE_MOST < file.len() {
         return refuse(output, file);
     }
-    let started = bus::start(file);
-    let answer = started.answer;
-    match answer {
-        DeclarationAnswer::Accepted => {
-            let bus = started.bus;
-            converse(input, output, bus)
-        }
-        DeclarationAnswer::Refused {
-            number: _,
-            place: _,
-        } => refuse(output, file),
+    match bus::start(file) {
+        Ok(bus) => converse(input, output, bus),
+        Err(_) => refuse(output, file),
     }
 }
 

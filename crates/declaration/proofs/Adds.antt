@@ -4,10 +4,8 @@ use mathlib.Core.Bool.{true, false}
 use mathlib.Core.List.{List}
 use mathlib.Core.Logic.{⊎_elim}
 use mathlib.Core.Path.{◌≡◌}
-use Rattle.refusal.specs.Refusal.{number_of}
+use Rattle.std.specs.Prelude.{Result, Ok, Err}
 use Rattle.refusal.specs.declared.refusal.Refusal.{Refusal}
-use Rattle.std.proofs.Common.{Result, Ok, Err}
-use Rattle.refusal.specs.Number.{accepted}
 use Rattle.word.proofs.Tests.{below_or_not, same_or_not, true_or_false, both}
 use Rattle.address.specs.Limits.{Limits}
 use Rattle.capability.specs.Size.{body_most}
@@ -19,17 +17,15 @@ use Rattle.capability.specs.declared.declared.Capabilities.{Capabilities}
 use Rattle.capability.proofs.Faults.{bad_fault, fault_bad}
 use Rattle.capability.proofs.Additions as additions
 use Rattle.declaration.specs.Blank.{no_mask}
-use Rattle.declaration.specs.Take.{with_function, with_contents, with_capabilities, mask_part, with_part, bodies_with, taken, taken_said}
+use Rattle.declaration.specs.Take.{with_function, with_contents, with_capabilities, mask_part, with_part, bodies_with, taken_said}
 use Rattle.declaration.specs.declared.said.Said.TheVariants as said
 use Rattle.declaration.specs.declared.so_far.SoFar.{SoFar}
-use Rattle.declaration.specs.declared.take.Taken.{Taken}
 use Rattle.declaration.proofs.Takings.{capability_above, capability_taken, effect_unowned, effect_above, effect_refused, effect_taken_lem}
 
 -- one more capability of n bytes, with the bytes of its field at their places; `d` are the capabilities with it
 abbrev pub with_bytes : SoFar → ℕ → List ℕ → Capabilities → SoFar
 with_bytes s n body d =
     record {
-      has_aperture = s.has_aperture;
       aperture = s.aperture;
       devices = s.devices;
       count = s.count;
@@ -37,23 +33,23 @@ with_bytes s n body d =
       mask = with_part no_mask 0 (mask_part n body);
     }
 
-abbrev pub after_capability : SoFar → ℕ → List ℕ → Result Capabilities Refusal → Taken
-after_capability s n body (Ok d) = taken accepted (with_bytes s n body d)
-after_capability s n body (Err r) = taken (number_of r) s
+abbrev pub after_capability : SoFar → ℕ → List ℕ → Result Capabilities Refusal → Result SoFar Refusal
+after_capability s n body (Ok d) = Ok (with_bytes s n body d)
+after_capability s n body (Err r) = Err r
 
-pub capability_step : (l : Limits) (s : SoFar) (id n : ℕ) (body : List ℕ) → n ≤ body_most → (s.count ≡ 0 → ⊥) → taken_said l s (said.Capability id n) body ≡ after_capability s n body (add_capability_of l s.function.capabilities (capability id n))
+pub capability_step : (l : Limits) (s : SoFar) (id n : ℕ) (body : List ℕ) → n ≤ body_most → (s.count ≡ 0 → ⊥) → taken_said l s (Ok (said.Capability id n)) body ≡ after_capability s n body (add_capability_of l s.function.capabilities (capability id n))
 capability_step l s id n body b h =
     let d = s.function.capabilities in
     ⊎_elim (λ (m : d.count < l.capabilities). rw (capability_taken l s id n body b h m, additions.add_good l d (capability id n) m))
     (λ (m : l.capabilities ≤ d.count). rw (capability_above l s id n body b h m, additions.add_full l d (capability id n) m))
     (below_or_not d.count l.capabilities)
 
-abbrev pub after_effect : SoFar → Result Capabilities Refusal → Taken
-after_effect s (Ok d) = taken accepted (with_function s (with_capabilities s.function d))
-after_effect s (Err r) = taken (number_of r) s
+abbrev pub after_effect : SoFar → Result Capabilities Refusal → Result SoFar Refusal
+after_effect s (Ok d) = Ok (with_function s (with_capabilities s.function d))
+after_effect s (Err r) = Err r
 
 module _ (l : Limits) (s : SoFar) (id o w : ℕ) (a : EffectAccess) (body : List ℕ) (h : s.count ≡ 0 → ⊥) where
-  pub effect_step : taken_said l s (said.Effect id o w a) body ≡ after_effect s (add_effect_of l s.mask s.function.capabilities id o w a)
+  pub effect_step : taken_said l s (Ok (said.Effect id o w a)) body ≡ after_effect s (add_effect_of l s.mask s.function.capabilities id o w a)
   effect_step =
       let d = s.function.capabilities in
       ⊎_elim (λ (n : d.count ≡ 0). rw (effect_unowned l s id o w a body h n, additions.effect_unowned l s.mask d id o w a n))

@@ -5,41 +5,46 @@ use mathlib.Core.List.{List}
 use mathlib.Core.Logic.{⊎_elim}
 use mathlib.Core.Path.{◌≡◌, refl, sym, ap, ◌∙◌}
 use native.Mathlib.Omega.{arith}
-use borrow.Author.Tests.{eqb-true, ltb-true}
-use lib.Dec.{eqb, ltb}
+use borrow.Author.Tests.{ltb-true}
+use lib.Dec.{ltb}
 use lib.ListN.{length}
-use Rattle.refusal.specs.Number.{accepted}
-use Rattle.word.proofs.Tests.{true_or_false, same_or_not, below_or_not, both, never, and_left, and_right}
+use Rattle.std.specs.Prelude.{Option, Some, None, is_none}
+use Rattle.refusal.specs.declared.refusal.Refusal.{Refusal}
+use Rattle.word.proofs.Tests.{true_or_false, below_or_not, both, never, and_left, and_right}
 use Rattle.address.specs.Limits.{Limits}
 use Rattle.declaration.specs.Check.{first_failing}
 use Rattle.declaration.specs.Exactly.{FirstFails, NoneFails, all_checks, now_after}
 use Rattle.declaration.specs.Frame.{field_end}
 use Rattle.declaration.specs.Reading.{stopped_with, gone_on, goes, read_field, read_fields, fields_of}
 use Rattle.declaration.specs.declared.reading.Reading.{Reading}
-use Rattle.declaration.proofs.Checks.{fails_first, fails_none, first_numbered}
+use Rattle.declaration.proofs.Checks.{some_or_none, fails_first, fails_none}
 use Rattle.declaration.proofs.Steps.{step_refused, step_taken, step_none}
 
 -- what a step does: it stops at the first check that fails, or goes on
-pub by_step : (l : Limits) (file : List ℕ) (r : Reading) (P : Reading → Type 0) → (goes file r ≡ false → P r) → ((n : ℕ) → goes file r ≡ true → FirstFails (all_checks l file r.at r.now) n → P (stopped_with r n)) → (goes file r ≡ true → NoneFails (all_checks l file r.at r.now) → P (gone_on r (field_end file r.at) (now_after file r.at r.now))) → P (read_field l file r)
+pub by_step : (l : Limits) (file : List ℕ) (r : Reading) (P : Reading → Type 0) → (goes file r ≡ false → P r) → ((x : Refusal) → goes file r ≡ true → FirstFails (all_checks l file r.at r.now) x → P (stopped_with r x)) → (goes file r ≡ true → NoneFails (all_checks l file r.at r.now) → P (gone_on r (field_end file r.at) (now_after file r.at r.now))) → P (read_field l file r)
 by_step l file r P stays stops takes =
     let cs = all_checks l file r.at r.now in
     ⊎_elim
     (λ (g : goes file r ≡ true).
-    ⊎_elim (λ (q : first_failing cs ≡ accepted). let none = fails_none cs refl q in rw (step_taken l file r g none) (takes g none))
-    (λ (q : first_failing cs ≡ accepted → ⊥). let f = fails_first cs (first_failing cs) q refl in rw (step_refused l file r (first_failing cs) g f) (stops (first_failing cs) g f))
-    (same_or_not (first_failing cs) accepted))
+    ⊎_elim (λ (q : (x : Refusal) × (first_failing cs ≡ Some x)). let f = fails_first cs q.0 q.1 in rw (step_refused l file r q.0 g f) (stops q.0 g f))
+    (λ (q : first_failing cs ≡ None). let none = fails_none cs q in rw (step_taken l file r g none) (takes g none))
+    (some_or_none (first_failing cs)))
     (λ (g : goes file r ≡ false). rw (step_none l file r g) (stays g))
     (true_or_false (goes file r))
 
 -- a reading that is refused goes on no more
-pub refused_stays : (file : List ℕ) (r : Reading) → (r.number ≡ accepted → ⊥) → goes file r ≡ false
-refused_stays file r h = never (goes file r) (λ g. h (eqb-true r.number accepted (and_left (eqb r.number accepted) (ltb r.at (length file)) g)))
+pub refused_stays : (file : List ℕ) (r : Reading) (x : Refusal) → r.refusal ≡ Some x → goes file r ≡ false
+refused_stays file r x h = rw h
 
-pub goes_accepted : (file : List ℕ) (r : Reading) → goes file r ≡ true → r.number ≡ accepted
-goes_accepted file r g = eqb-true r.number accepted (and_left (eqb r.number accepted) (ltb r.at (length file)) g)
+none_is : (o : Option Refusal) → is_none o ≡ true → o ≡ None
+none_is None e = refl
+none_is (Some x) e = absurd (both e refl)
+
+pub goes_accepted : (file : List ℕ) (r : Reading) → goes file r ≡ true → r.refusal ≡ None
+goes_accepted file r g = none_is r.refusal (and_left (is_none r.refusal) (ltb r.at (length file)) g)
 
 pub goes_inside : (file : List ℕ) (r : Reading) → goes file r ≡ true → r.at < length file
-goes_inside file r g = ltb-true r.at (length file) (and_right (eqb r.number accepted) (ltb r.at (length file)) g)
+goes_inside file r g = ltb-true r.at (length file) (and_right (is_none r.refusal) (ltb r.at (length file)) g)
 
 module _ (l : Limits) (file : List ℕ) where
   -- each step that leaves a reading going moved it by a field
@@ -49,7 +54,7 @@ module _ (l : Limits) (file : List ℕ) where
   moves (suc n) e =
       let r = read_fields l file n in
       by_step l file r (λ t. goes file t ≡ true → suc n ≤ t.at) (λ s g. absurd (both g s))
-      (λ k g f h. absurd (first_numbered (all_checks l file r.at r.now) k refl f (goes_accepted file (stopped_with r k) h)))
+      (λ x g f h. absurd (both h (refused_stays file (stopped_with r x) x refl)))
       (λ g none h. let m = moves n g in omega arith)
       e
 

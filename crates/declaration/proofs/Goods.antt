@@ -2,10 +2,11 @@
 use Prim.Native.Nat.{ℕ, ◌+◌, ◌<◌, ◌≤◌}
 use mathlib.Core.List.{List}
 use mathlib.Core.Logic.{⊎_elim}
-use mathlib.Core.Path.{◌≡◌, refl, ap}
+use mathlib.Core.Path.{◌≡◌, ap}
 use native.Mathlib.Omega.{arith}
 use lib.ListN.{length}
-use Rattle.std.proofs.Common.{Ok}
+use Rattle.std.specs.Prelude.{Ok}
+use Rattle.refusal.specs.declared.refusal.Refusal.{Refusal}
 use Rattle.address.specs.Layout.{config_space_size}
 use Rattle.address.specs.Limits.{Limits, limits}
 use Rattle.bar.specs.declared.range.Aperture.{Aperture}
@@ -21,7 +22,7 @@ use Rattle.declaration.specs.Exactly.{bad_byte_at, Reached, start, field, Read, 
 use Rattle.declaration.specs.Finished.{function_at}
 use Rattle.declaration.specs.Frame.{field_header, tag_at, length_at, body_at}
 use Rattle.declaration.specs.Good.{Bytes, Within, GoodFunctions, Good}
-use Rattle.declaration.specs.declared.answer.DeclarationAnswer.TheVariants as answer
+use Rattle.declaration.specs.declared.answer.Declaration.{Declaration}
 use Rattle.declaration.specs.declared.finished.Finished.{Finished}
 use Rattle.declaration.specs.declared.so_far.SoFar.{SoFar}
 use Rattle.word.proofs.Searches.{first_none}
@@ -50,7 +51,7 @@ module _ (l : Limits) (w : Within l) (file : List ℕ) (bytes : Bytes file) wher
       rw r.functions at (all_good r.now r.finished q.sane q.apart)
 
   -- "for each device ascending": where a function is refused, those of lower devices have no fault
-  pub lower_faultless : (n device index : ℕ) (h : FaultyAt l file n device index) (k : ℕ) → k < h.functions.count → (function_at h.functions k).device < device → Faultless (function_at h.functions k)
+  pub lower_faultless : (n : Refusal) (device index : ℕ) (h : FaultyAt l file n device index) (k : ℕ) → k < h.functions.count → (function_at h.functions k).device < device → Faultless (function_at h.functions k)
   lower_faultless n device index h k c d =
       let g = read_functions h.its h.functions h.read in
       ⊎_elim (λ (b : k < h.position). h.before k b)
@@ -65,11 +66,11 @@ module _ (l : Limits) (w : Within l) (file : List ℕ) (bytes : Bytes file) wher
       let r = p.read in
       let q = reached_held (length file) r.now r.finished r.reached in
       let g = read_functions a f r in
-      record { has = refl; aperture = rw r.aperture at (q.sane.aperture r.has); functions = g; faultless = λ k h. p.faultless k (omega (arith, g.few)) }
+      record { aperture = q.sane.aperture a r.aperture; functions = g; faultless = λ k h. p.faultless k (omega (arith, g.few)) }
 
   -- the theorem
-  pub accepted_good : (declared_by l file).answer ≡ answer.Accepted → Good (declared_by l file).declaration
-  accepted_good e = let c = is_passed l file e in rw c.declares (read_good_lem c.aperture c.functions c.passes)
+  pub accepted_good : (d : Declaration) → declared_by l file ≡ Ok d → Good d
+  accepted_good d e = let c = is_passed l file d e in rw c.declares (read_good_lem c.aperture c.functions c.passes)
 
 -- document 01's limits have room
 pub limits_within : Within limits

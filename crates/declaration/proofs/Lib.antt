@@ -24,5 +24,3 @@ pub mod Keeping
 pub mod Goods
 pub mod Readers
 pub mod ByteFiles
-mod Lent
-mod Handed

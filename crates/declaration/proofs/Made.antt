@@ -1,19 +1,18 @@
 -- What the answer of a constructor of the layers below tells of its arguments, where it is a refusal.
 use Prim.Native.Nat.{ℕ, ◌<◌, ◌≤◌}
 use mathlib.Core.Logic.{⊎_elim}
-use mathlib.Core.Path.{◌≡◌}
-use native.Mathlib.Omega.{arith}
+use mathlib.Core.Path.{◌≡◌, sym, ◌∙◌}
+use Rattle.std.specs.Prelude.{Result, Ok, Err}
 use Rattle.refusal.specs.declared.refusal.Refusal.{Refusal}
-use Rattle.std.proofs.Common.{Result, Ok, Err}
+use Rattle.refusal.specs.declared.refusal.Refusal.TheVariants.{LongBody}
 use Rattle.word.proofs.Tests.{below_or_not}
 use Rattle.capability.specs.Size.{body_most}
-use Rattle.capability.specs.Declaration.{capability_of}
+use Rattle.capability.specs.Declaration.{capability, capability_of}
 use Rattle.capability.specs.declared.declared.Capability.{Capability}
-use Rattle.capability.proofs.Declarations.{capability_good}
+use Rattle.capability.proofs.Declarations.{capability_good, capability_bad}
 
-capability_two : (a : Result Capability Refusal) (k : Capability) (r : Refusal) → a ≡ Ok k → a ≡ Err r → ⊥
-capability_two a k r e f = let z : ◌≡◌ {A = ℕ} 0 1 = cc in absurd (omega arith)
-
-pub capability_none : (id n : ℕ) (r : Refusal) → capability_of id n ≡ Err r → body_most < n
-capability_none id n r e =
-    ⊎_elim (λ (h : body_most < n). h) (λ (h : n ≤ body_most). absurd (capability_two (capability_of id n) _ r (capability_good id n h) e)) (below_or_not body_most n)
+pub capability_refused : (id n : ℕ) (r : Refusal) → capability_of id n ≡ Err r → (r ≡ LongBody) × (body_most < n)
+capability_refused id n r e =
+    ⊎_elim (λ (h : body_most < n). let z : ◌≡◌ {A = Result Capability Refusal} (Err r) (Err LongBody) = sym e ∙ capability_bad id n h in let q : r ≡ LongBody = cc in (q, h))
+    (λ (h : n ≤ body_most). let z : ◌≡◌ {A = Result Capability Refusal} (Ok (capability id n)) (Err r) = sym (capability_good id n h) ∙ e in absurd (cc))
+    (below_or_not body_most n)

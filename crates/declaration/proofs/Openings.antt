@@ -1,9 +1,9 @@
--- A list with one element more at a place: its length, what stands before, at and after the place, and how a loop from its end makes it.
+-- A list with one element more at a place: its length, what stands before, at and after the place, and how a loop makes it.
 use Prim.Native.Nat.{ℕ, ◌+◌, ◌-◌, ◌<◌, ◌≤◌}
 use mathlib.Core.Bool.{cond}
 use mathlib.Core.List.{List}
 use mathlib.Core.Logic.{⊎_elim}
-use mathlib.Core.Path.{◌≡◌, refl, sym, ◌∙◌}
+use mathlib.Core.Path.{◌≡◌, refl, sym, ap, ◌∙◌}
 use native.Mathlib.Omega.{arith}
 use borrow.Author.Tests.{lt-ltb, le-ltb, eq-eqb, ne_eqb}
 use lib.Dec.{ltb, eqb}
@@ -42,28 +42,27 @@ module _ {A : Type 0} (blank : A) (l : List A) (p : ℕ) (x : A) where
       ⊎_elim (λ (e : k ≡ p). rw (e, opened_here (omega arith)) (here e)) (λ (o : k ≡ p → ⊥). rw (opened_after k h (omega arith)) (after (omega arith))) (same_or_not k p))
       (below_or_not k p)
 
--- a loop from the list's end opens it: what stood at place m or after it stands one place further
-module _ {A : Type 0} (blank : A) (l : List A) where
-  moved_at : ℕ → ℕ → A
-  moved_at m k = cond (ltb m k) (get_or l (k - 1) blank) (get_or l k blank)
+-- a loop from the place on opens it: below k the list is open, and from k on as it was
+module _ {A : Type 0} (blank : A) (l : List A) (p : ℕ) (x : A) where
+  below_at : ℕ → ℕ → A
+  below_at k j = cond (ltb j k) (open_at blank l p x j) (get_or l j blank)
 
-  pub moved_from : ℕ → List A
-  moved_from m = table (length l) (moved_at m)
+  pub opened_below : ℕ → List A
+  opened_below k = table (length l) (below_at k)
 
-  -- nothing from the last place on; one more; and the element in its place
-  pub moved_none : (m : ℕ) → length l ≤ m + 1 → l ≡ moved_from m
-  unfolding moved_at moved_from
-  moved_none m h = sym (table_get_d blank l) ∙ table_ext (length l) (λ k. get_or l k blank) (moved_at m) (λ k b. rw (le-ltb m k (omega arith)))
+  -- the element in its place; one more; and the whole list
+  pub opened_place : p < length l → set l p x ≡ opened_below (p + 1)
+  unfolding opened_below below_at
+  opened_place h =
+      ap (λ (m : List A). set m p x) (sym (table_get_d blank l)) ∙ table_set blank (length l) (λ j. get_or l j blank) (below_at (p + 1)) p x h (rw (lt-ltb p (p + 1) (omega arith), le-ltb p p (omega arith), eq-eqb p p refl))
+      (λ j q o. ⊎_elim (λ (b : j < p). rw (lt-ltb j (p + 1) (omega arith), lt-ltb j p b)) (λ (b : p ≤ j). rw (le-ltb j (p + 1) (omega arith))) (below_or_not j p))
 
-  pub moved_more : (m n : ℕ) (b : A) → m ≡ n + 1 → m < length l → b ≡ get_or l n blank → set (moved_from m) m b ≡ moved_from n
-  unfolding moved_at moved_from
-  moved_more m n b s h e =
-      let q : m - 1 ≡ n = omega arith in
-      table_set blank (length l) (moved_at m) (moved_at n) m b h (e ∙ rw (lt-ltb n m (omega arith), q))
-      (λ k r o. rw (ltb_same m k n k (λ a. omega arith) (λ a. ⊎_elim (λ (z : m < k). z) (λ (z : k ≤ m). absurd (o (omega arith))) (below_or_not m k))))
+  pub opened_more : (k : ℕ) (b : A) → p < k → k < length l → b ≡ get_or l (k - 1) blank → set (opened_below k) k b ≡ opened_below (k + 1)
+  unfolding opened_below below_at
+  opened_more k b h m e =
+      table_set blank (length l) (below_at k) (below_at (k + 1)) k b m (e ∙ rw (lt-ltb k (k + 1) (omega arith), le-ltb k p (omega arith), ne_eqb k p (λ z. omega arith)))
+      (λ j q o. rw (ltb_same j k j (k + 1) (λ z. omega arith) (λ z. ⊎_elim (λ (y : j < k). y) (λ (y : k ≤ j). absurd (o (omega arith))) (below_or_not j k))))
 
-  pub moved_opened : (p : ℕ) (x : A) → p < length l → set (moved_from p) p x ≡ opened blank l p x
-  unfolding opened moved_at moved_from
-  moved_opened p x h =
-      table_set blank (length l) (moved_at p) (open_at blank l p x) p x h (rw (le-ltb p p (omega arith), eq-eqb p p refl))
-      (λ k q o. ⊎_elim (λ (b : k < p). rw (lt-ltb k p b, le-ltb p k (omega arith))) (λ (b : p ≤ k). ⊎_elim (λ (z : p < k). rw (le-ltb k p b, ne_eqb k p o, lt-ltb p k z)) (λ (z : k ≤ p). absurd (o (omega arith))) (below_or_not p k)) (below_or_not k p))
+  pub opened_all : opened_below (length l) ≡ opened blank l p x
+  unfolding opened opened_below below_at
+  opened_all = table_ext (length l) (below_at (length l)) (open_at blank l p x) (λ j h. rw (lt-ltb j (length l) h))

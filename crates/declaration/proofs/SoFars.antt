@@ -2,12 +2,14 @@
 use Prim.Native.Nat.{ℕ, ◌+◌, ◌-◌, ◌<◌, ◌≤◌}
 use mathlib.Core.Bool.{true, false}
 use mathlib.Core.Logic.{⊎_elim}
-use mathlib.Core.Path.{◌≡◌, refl, ap, ◌∙◌}
+use mathlib.Core.Path.{◌≡◌, ap, ◌∙◌}
 use native.Mathlib.Omega.{arith}
 use borrow.Author.Tests.{eq-eqb, ne_eqb}
 use lib.ListN.{length, set, length-replicate}
+use Rattle.std.specs.Prelude.{Some}
 use Rattle.word.proofs.Tests.{both, same_or_not}
 use Rattle.address.specs.Limits.{function_room}
+use Rattle.bar.specs.declared.range.Aperture.{Aperture}
 use Rattle.declaration.specs.Blank.{no_identity, no_mask, nothing_so_far}
 use Rattle.declaration.specs.Finished.{finished_after}
 use Rattle.declaration.specs.Finished.{function_at, none_finished, finished_with, finished_so_far}
@@ -22,7 +24,7 @@ use Rattle.declaration.proofs.Inserted.{none_finished_good, inserted_good, inser
 
 -- what is so of the declaration so far after every field
 pub record Sane (s : SoFar) : Type 0 where
-  pub aperture : s.has_aperture ≡ true → GoodAperture s.aperture
+  pub aperture : (a : Aperture) → s.aperture ≡ Some a → GoodAperture a
   pub room : length s.devices ≡ function_room
   pub few : s.count ≤ function_room
   pub function : GoodFunction s.function
@@ -42,7 +44,7 @@ pub record Kept (s : SoFar) (f : Finished) (t : SoFar) : Type 0 where
 
 pub nothing_sane : Sane nothing_so_far
 unfolding nothing_so_far
-nothing_sane = record { aperture = λ e. absurd (both e refl); room = length-replicate {A = ℕ} function_room 0; few = omega arith; function = no_function_good; mine = λ h. absurd (omega arith); masked = empty_latest no_mask 0 no_identity }
+nothing_sane = record { aperture = λ a e. absurd (cc); room = length-replicate {A = ℕ} function_room 0; few = omega arith; function = no_function_good; mine = λ h. absurd (omega arith); masked = empty_latest no_mask 0 no_identity }
 
 pub nothing_apart : Apart nothing_so_far none_finished
 unfolding nothing_so_far none_finished

@@ -1,69 +1,76 @@
--- What a field does, check by check: the number of the first that fails, in document 01's order, or the declaration with the field.
-use Rattle.std.specs.Prelude.{Ok, Err}
+-- What a field does, check by check: the refusal of the first that fails, in document 01's order, or the declaration with the field.
 use Prim.Native.Nat.{ℕ, ◌<◌, ◌≤◌}
 use mathlib.Core.Bool.{true, false}
 use mathlib.Core.List.{List}
-use mathlib.Core.Path.{◌≡◌, refl}
+use mathlib.Core.Path.{◌≡◌}
 use native.Mathlib.Omega.{arith}
 use borrow.Author.Tests.{lt-ltb, le-ltb, le-leb, lt-leb, eq-eqb, ne_eqb}
 use lib.Dec.{ltb}
-use Rattle.refusal.specs.Number.{accepted, bad_form, out_of_order, above_limit, bad_device_or_slot, absent_vendor, bad_size, bad_aperture, long_body, bad_effect}
+use Rattle.std.specs.Prelude.{is_some, Ok, Err}
+use Rattle.refusal.specs.declared.refusal.Refusal.{Refusal}
+use Rattle.refusal.specs.declared.refusal.Refusal.TheVariants.{OutOfOrder, AboveLimit, BadDeviceOrSlot, AbsentVendor, BadEffect}
 use Rattle.word.specs.Search.{all_below}
 use Rattle.address.specs.Layout.{bar_count}
 use Rattle.address.specs.Limits.{Limits}
 use Rattle.bar.specs.Range.{four_gib, aperture_of}
-use Rattle.bar.specs.Bar.{size_ok}
+use Rattle.bar.specs.Bar.{size_ok, bar_of}
 use Rattle.bar.specs.declared.memory_bar.Request.{Request}
 use Rattle.bar.specs.declared.range.Aperture.{Aperture}
 use Rattle.bar.proofs.Ranges.{aperture_is, aperture_refused}
+use Rattle.bar.proofs.Sizes.{bar_refused}
+use Rattle.address.specs.Kinds.{slot_of}
+use Rattle.address.specs.declared.slot.Slot.{Slot}
+use Rattle.address.proofs.Slots.{slot_refused}
 use Rattle.capability.specs.Size.{body_most}
 use Rattle.capability.specs.BadEffect.{effect_bad}
+use Rattle.capability.specs.Declaration.{capability_of}
 use Rattle.capability.specs.declared.effect.EffectAccess.{EffectAccess}
 use Rattle.config.specs.declared.function.Identity.{Identity}
-use Rattle.std.specs.Option.{is_some}
 use Rattle.declaration.specs.Standing.{slot_used, device_bad}
-use Rattle.declaration.specs.Take.{with_field, taken, taken_said}
+use Rattle.declaration.specs.Take.{with_field, taken_said, taken_of}
 use Rattle.declaration.specs.declared.said.Said.TheVariants as said
 use Rattle.declaration.specs.declared.so_far.SoFar.{SoFar}
-use Rattle.refusal.specs.declared.refusal.Refusal.{Refusal}
+use Rattle.declaration.specs.Said.{said_of}
+use Rattle.declaration.proofs.Made.{capability_refused}
+use Rattle.declaration.proofs.Saids.{said_refusal}
 
 -- an aperture
 module _ (l : Limits) (s : SoFar) (start end : ℕ) (body : List ℕ) where
-  pub aperture_repeated : s.has_aperture ≡ true → taken_said l s (said.Aperture start end) body ≡ taken out_of_order s
+  pub aperture_repeated : is_some s.aperture ≡ true → taken_said l s (Ok (said.Aperture start end)) body ≡ Err OutOfOrder
   unfolding taken_said
   aperture_repeated h = rw h
 
-  module _ (h : s.has_aperture ≡ false) where
-    pub aperture_not_taken : (r : Refusal) → aperture_of four_gib start end ≡ Err r → taken_said l s (said.Aperture start end) body ≡ taken bad_aperture s
+  module _ (h : is_some s.aperture ≡ false) where
+    pub aperture_not_taken : (r : Refusal) → aperture_of four_gib start end ≡ Err r → taken_said l s (Ok (said.Aperture start end)) body ≡ Err r
     unfolding taken_said
-    aperture_not_taken r e = rw (h, (aperture_refused four_gib start end r e).1)
+    aperture_not_taken r e = rw (h, (aperture_refused four_gib start end r e).1, (aperture_refused four_gib start end r e).0)
 
-    pub aperture_taken : (a : Aperture) → aperture_of four_gib start end ≡ Ok a → taken_said l s (said.Aperture start end) body ≡ taken accepted (with_field s (said.Aperture start end) body)
+    pub aperture_taken : (a : Aperture) → aperture_of four_gib start end ≡ Ok a → taken_said l s (Ok (said.Aperture start end)) body ≡ Ok (with_field s (said.Aperture start end) body)
     unfolding taken_said
     aperture_taken a e = let r = aperture_is four_gib start end a e in rw (h, lt-ltb start end r.1, le-leb end four_gib r.2)
 
 -- a function
 module _ (l : Limits) (s : SoFar) (device : ℕ) (identity : Identity) (body : List ℕ) where
-  pub function_early : s.has_aperture ≡ false → taken_said l s (said.Function device identity) body ≡ taken out_of_order s
+  pub function_early : is_some s.aperture ≡ false → taken_said l s (Ok (said.Function device identity)) body ≡ Err OutOfOrder
   unfolding taken_said
   function_early h = rw h
 
-  module _ (h : s.has_aperture ≡ true) where
-    pub function_above : l.functions ≤ s.count → taken_said l s (said.Function device identity) body ≡ taken above_limit s
+  module _ (h : is_some s.aperture ≡ true) where
+    pub function_above : l.functions ≤ s.count → taken_said l s (Ok (said.Function device identity)) body ≡ Err AboveLimit
     unfolding taken_said
     function_above n = rw (h, le-leb l.functions s.count n)
 
     module _ (n : s.count < l.functions) where
-      pub function_bad_device : device_bad s device ≡ true → taken_said l s (said.Function device identity) body ≡ taken bad_device_or_slot s
+      pub function_bad_device : device_bad s device ≡ true → taken_said l s (Ok (said.Function device identity)) body ≡ Err BadDeviceOrSlot
       unfolding taken_said
       function_bad_device d = rw (d, h, lt-leb l.functions s.count n)
 
       module _ (d : device_bad s device ≡ false) where
-        pub function_absent : identity.vendor ≡ 0xffff → taken_said l s (said.Function device identity) body ≡ taken absent_vendor s
+        pub function_absent : identity.vendor ≡ 0xffff → taken_said l s (Ok (said.Function device identity)) body ≡ Err AbsentVendor
         unfolding taken_said
         function_absent v = rw (d, h, lt-leb l.functions s.count n, eq-eqb identity.vendor 0xffff v)
 
-        pub function_taken : (identity.vendor ≡ 0xffff → ⊥) → taken_said l s (said.Function device identity) body ≡ taken accepted (with_field s (said.Function device identity) body)
+        pub function_taken : (identity.vendor ≡ 0xffff → ⊥) → taken_said l s (Ok (said.Function device identity)) body ≡ Ok (with_field s (said.Function device identity) body)
         unfolding taken_said
         function_taken v = rw (d, h, lt-leb l.functions s.count n, ne_eqb identity.vendor 0xffff v)
 
@@ -76,110 +83,110 @@ none s h = le-ltb 0 s.count (omega arith)
 
 -- an INTx
 module _ (l : Limits) (s : SoFar) (pin line : ℕ) (body : List ℕ) where
-  pub intx_early : s.count ≡ 0 → taken_said l s (said.Intx pin line) body ≡ taken out_of_order s
+  pub intx_early : s.count ≡ 0 → taken_said l s (Ok (said.Intx pin line)) body ≡ Err OutOfOrder
   unfolding taken_said
   intx_early h = rw (none s h)
 
   module _ (h : s.count ≡ 0 → ⊥) where
-    pub intx_repeated : is_some s.function.contents.intx ≡ true → taken_said l s (said.Intx pin line) body ≡ taken out_of_order s
+    pub intx_repeated : is_some s.function.contents.intx ≡ true → taken_said l s (Ok (said.Intx pin line)) body ≡ Err OutOfOrder
     unfolding taken_said
     intx_repeated e = rw (present s h, e)
 
-    pub intx_taken : is_some s.function.contents.intx ≡ false → taken_said l s (said.Intx pin line) body ≡ taken accepted (with_field s (said.Intx pin line) body)
+    pub intx_taken : is_some s.function.contents.intx ≡ false → taken_said l s (Ok (said.Intx pin line)) body ≡ Ok (with_field s (said.Intx pin line) body)
     unfolding taken_said
     intx_taken e = rw (present s h, e)
 
 -- a BAR
 module _ (l : Limits) (s : SoFar) (k size : ℕ) (request : Request) (body : List ℕ) where
-  pub bar_early : s.count ≡ 0 → taken_said l s (said.Bar k size request) body ≡ taken out_of_order s
+  pub bar_early : s.count ≡ 0 → taken_said l s (Ok (said.Bar k size request)) body ≡ Err OutOfOrder
   unfolding taken_said
   bar_early h = rw (none s h)
 
   module _ (h : s.count ≡ 0 → ⊥) where
-    pub bar_above : all_below (slot_used s.function) bar_count ≡ true → taken_said l s (said.Bar k size request) body ≡ taken above_limit s
+    pub bar_above : all_below (slot_used s.function) bar_count ≡ true → taken_said l s (Ok (said.Bar k size request)) body ≡ Err AboveLimit
     unfolding taken_said
     bar_above a = rw (present s h, a)
 
     module _ (a : all_below (slot_used s.function) bar_count ≡ false) where
-      pub bar_no_slot : bar_count ≤ k → taken_said l s (said.Bar k size request) body ≡ taken bad_device_or_slot s
+      pub bar_no_slot : (r : Refusal) → slot_of k ≡ Err r → taken_said l s (Ok (said.Bar k size request)) body ≡ Err r
       unfolding taken_said
-      bar_no_slot b = rw (present s h, a, le-leb bar_count k b)
+      bar_no_slot r e = let q = slot_refused k r e in rw (present s h, a, le-leb bar_count k q.1, q.0)
 
       module _ (b : k < bar_count) where
-        pub bar_used : slot_used s.function k ≡ true → taken_said l s (said.Bar k size request) body ≡ taken bad_device_or_slot s
+        pub bar_used : slot_used s.function k ≡ true → taken_said l s (Ok (said.Bar k size request)) body ≡ Err BadDeviceOrSlot
         unfolding taken_said
         bar_used u = rw (present s h, a, lt-leb bar_count k b, u)
 
         module _ (u : slot_used s.function k ≡ false) where
-          pub bar_bad_size : size_ok size ≡ false → taken_said l s (said.Bar k size request) body ≡ taken bad_size s
+          pub bar_bad_size : (i : Slot) (r : Refusal) → bar_of i size request ≡ Err r → taken_said l s (Ok (said.Bar k size request)) body ≡ Err r
           unfolding taken_said
-          bar_bad_size e = rw (present s h, a, lt-leb bar_count k b, u, e)
+          bar_bad_size i r e = let q = bar_refused i size request r e in rw (present s h, a, lt-leb bar_count k b, u, q.1, q.0)
 
-          pub bar_taken : size_ok size ≡ true → taken_said l s (said.Bar k size request) body ≡ taken accepted (with_field s (said.Bar k size request) body)
+          pub bar_taken : size_ok size ≡ true → taken_said l s (Ok (said.Bar k size request)) body ≡ Ok (with_field s (said.Bar k size request) body)
           unfolding taken_said
           bar_taken e = rw (present s h, a, lt-leb bar_count k b, u, e)
 
 -- a config byte
 module _ (l : Limits) (s : SoFar) (o value mask : ℕ) (body : List ℕ) where
-  pub byte_early : s.count ≡ 0 → taken_said l s (said.ConfigByte o value mask) body ≡ taken out_of_order s
+  pub byte_early : s.count ≡ 0 → taken_said l s (Ok (said.ConfigByte o value mask)) body ≡ Err OutOfOrder
   unfolding taken_said
   byte_early h = rw (none s h)
 
   module _ (h : s.count ≡ 0 → ⊥) where
-    pub byte_above : l.config_bytes ≤ s.function.contents.byte_count → taken_said l s (said.ConfigByte o value mask) body ≡ taken above_limit s
+    pub byte_above : l.config_bytes ≤ s.function.contents.byte_count → taken_said l s (Ok (said.ConfigByte o value mask)) body ≡ Err AboveLimit
     unfolding taken_said
     byte_above n = rw (present s h, le-leb l.config_bytes s.function.contents.byte_count n)
 
-    pub byte_taken : s.function.contents.byte_count < l.config_bytes → taken_said l s (said.ConfigByte o value mask) body ≡ taken accepted (with_field s (said.ConfigByte o value mask) body)
+    pub byte_taken : s.function.contents.byte_count < l.config_bytes → taken_said l s (Ok (said.ConfigByte o value mask)) body ≡ Ok (with_field s (said.ConfigByte o value mask) body)
     unfolding taken_said
     byte_taken n = rw (present s h, lt-leb l.config_bytes s.function.contents.byte_count n)
 
 -- a capability
 module _ (l : Limits) (s : SoFar) (id n : ℕ) (body : List ℕ) where
-  pub capability_long : body_most < n → taken_said l s (said.Capability id n) body ≡ taken long_body s
+  pub capability_long : (r : Refusal) → capability_of id n ≡ Err r → taken_said l s (Ok (said.Capability id n)) body ≡ Err r
   unfolding taken_said
-  capability_long b = rw (lt-ltb body_most n b)
+  capability_long r e = let q = capability_refused id n r e in rw (lt-ltb body_most n q.1, q.0)
 
   module _ (b : n ≤ body_most) where
-    pub capability_early : s.count ≡ 0 → taken_said l s (said.Capability id n) body ≡ taken out_of_order s
+    pub capability_early : s.count ≡ 0 → taken_said l s (Ok (said.Capability id n)) body ≡ Err OutOfOrder
     unfolding taken_said
     capability_early h = rw (le-ltb body_most n b, none s h)
 
     module _ (h : s.count ≡ 0 → ⊥) where
-      pub capability_above : l.capabilities ≤ s.function.capabilities.count → taken_said l s (said.Capability id n) body ≡ taken above_limit s
+      pub capability_above : l.capabilities ≤ s.function.capabilities.count → taken_said l s (Ok (said.Capability id n)) body ≡ Err AboveLimit
       unfolding taken_said
       capability_above m = rw (le-ltb body_most n b, present s h, le-leb l.capabilities s.function.capabilities.count m)
 
-      pub capability_taken : s.function.capabilities.count < l.capabilities → taken_said l s (said.Capability id n) body ≡ taken accepted (with_field s (said.Capability id n) body)
+      pub capability_taken : s.function.capabilities.count < l.capabilities → taken_said l s (Ok (said.Capability id n)) body ≡ Ok (with_field s (said.Capability id n) body)
       unfolding taken_said
       capability_taken m = rw (le-ltb body_most n b, present s h, lt-leb l.capabilities s.function.capabilities.count m)
 
 -- an effect
 module _ (l : Limits) (s : SoFar) (id o w : ℕ) (access : EffectAccess) (body : List ℕ) where
-  pub effect_early : s.count ≡ 0 → taken_said l s (said.Effect id o w access) body ≡ taken out_of_order s
+  pub effect_early : s.count ≡ 0 → taken_said l s (Ok (said.Effect id o w access)) body ≡ Err OutOfOrder
   unfolding taken_said
   effect_early h = rw (none s h)
 
   module _ (h : s.count ≡ 0 → ⊥) where
-    pub effect_unowned : s.function.capabilities.count ≡ 0 → taken_said l s (said.Effect id o w access) body ≡ taken out_of_order s
+    pub effect_unowned : s.function.capabilities.count ≡ 0 → taken_said l s (Ok (said.Effect id o w access)) body ≡ Err OutOfOrder
     unfolding taken_said
     effect_unowned n = rw (present s h, le-ltb 0 s.function.capabilities.count (omega arith))
 
     module _ (n : s.function.capabilities.count ≡ 0 → ⊥) where
-      pub effect_above : l.effects ≤ s.function.capabilities.effect_count → taken_said l s (said.Effect id o w access) body ≡ taken above_limit s
+      pub effect_above : l.effects ≤ s.function.capabilities.effect_count → taken_said l s (Ok (said.Effect id o w access)) body ≡ Err AboveLimit
       unfolding taken_said
       effect_above m = rw (present s h, lt-ltb 0 s.function.capabilities.count (omega arith), le-leb l.effects s.function.capabilities.effect_count m)
 
       module _ (m : s.function.capabilities.effect_count < l.effects) where
-        pub effect_refused : effect_bad s.mask s.function.capabilities o w ≡ true → taken_said l s (said.Effect id o w access) body ≡ taken bad_effect s
+        pub effect_refused : effect_bad s.mask s.function.capabilities o w ≡ true → taken_said l s (Ok (said.Effect id o w access)) body ≡ Err BadEffect
         unfolding taken_said
         effect_refused e = rw (present s h, lt-ltb 0 s.function.capabilities.count (omega arith), lt-leb l.effects s.function.capabilities.effect_count m, e)
 
-        pub effect_taken_lem : effect_bad s.mask s.function.capabilities o w ≡ false → taken_said l s (said.Effect id o w access) body ≡ taken accepted (with_field s (said.Effect id o w access) body)
+        pub effect_taken_lem : effect_bad s.mask s.function.capabilities o w ≡ false → taken_said l s (Ok (said.Effect id o w access)) body ≡ Ok (with_field s (said.Effect id o w access) body)
         unfolding taken_said
         effect_taken_lem e = rw (present s h, lt-ltb 0 s.function.capabilities.count (omega arith), lt-leb l.effects s.function.capabilities.effect_count m, e)
 
 -- a body that says nothing
-pub bad_taken : (l : Limits) (s : SoFar) (body : List ℕ) → taken_said l s said.Bad body ≡ taken bad_form s
+pub bad_taken : (l : Limits) (s : SoFar) (tag : ℕ) (body : List ℕ) (r : Refusal) → said_of tag body ≡ Err r → taken_of l s tag body ≡ Err r
 unfolding taken_said
-bad_taken l s body = refl
+bad_taken l s tag body r e = rw (e, said_refusal tag body r e)

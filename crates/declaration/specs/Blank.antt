@@ -1,5 +1,5 @@
 -- What is there before anything is declared: an empty function, and a declaration with nothing in it.
-use Rattle.std.specs.Prelude.{ℕ, false, List, replicate, None}
+use Rattle.std.specs.Prelude.{ℕ, List, replicate, None}
 use Rattle.address.specs.Layout.{bar_count}
 use Rattle.address.specs.Limits.{function_room, config_byte_room}
 use Rattle.bar.specs.Bar.{no_bar}
@@ -39,4 +39,4 @@ no_mask = replicate body_most 0
 -- before the first field
 unfoldable pub nothing_so_far : SoFar
 nothing_so_far =
-    record { has_aperture = false; aperture = no_aperture; devices = replicate function_room 0; count = 0; function = no_function; mask = no_mask }
+    record { aperture = None; devices = replicate function_room 0; count = 0; function = no_function; mask = no_mask }

@@ -1,16 +1,21 @@
--- Checks in their order: the first that fails gives its number.
-use Rattle.std.specs.Prelude.{ℕ, Bool, cond, List, [], ◌∷◌}
-use Rattle.refusal.specs.Number.{accepted}
+-- Checks in their order: the first that fails gives its refusal.
+use Rattle.std.specs.Prelude.{Bool, cond, List, [], ◌∷◌, Option, Some, None, Result, Ok, Err}
+use Rattle.refusal.specs.declared.refusal.Refusal.{Refusal}
 
--- a number of document 01's table, and whether its row holds
+-- a refusal of document 01's table, and whether its row holds
 infix 20 ◌when◌
 pub data Check : Type 0 where
-  ◌when◌ : ℕ → Bool → Check
+  ◌when◌ : Refusal → Bool → Check
 
-abbrev pub first_or : ℕ → Check → ℕ
-first_or later (number when fails) = cond fails number later
+abbrev pub first_or : Option Refusal → Check → Option Refusal
+first_or later (r when fails) = cond fails (Some r) later
 
--- the number of the first one that fails
-abbrev pub first_failing : List Check → ℕ
-first_failing [] = accepted
+-- the refusal of the first one that fails
+abbrev pub first_failing : List Check → Option Refusal
+first_failing [] = None
 first_failing (c ∷ cs) = first_or (first_failing cs) c
+
+-- what nothing refuses, or the refusal
+abbrev pub unless_refused : {A E : Type 0} → Option E → A → Result A E
+unless_refused None a = Ok a
+unless_refused (Some e) a = Err e

@@ -1,11 +1,11 @@
 -- Framing: from a position in the file to a field's tag and body (document 01: "Fields: one-byte tag, two-byte length, body").
-use Rattle.std.specs.Prelude.{ℕ, ◌+◌, Bool, not, cond, List, [], ◌∷◌, ltb, eqb, length, get_or, take, drop}
-use Rattle.refusal.specs.Number.{accepted, field_cut, bad_form, long_body}
+use Rattle.std.specs.Prelude.{ℕ, ◌+◌, Bool, not, List, [], ◌∷◌, ltb, length, get_or, take, drop, Result}
+use Rattle.refusal.specs.declared.refusal.Refusal.{Refusal}
+use Rattle.refusal.specs.declared.refusal.Refusal.TheVariants.{FieldCut, BadForm, LongBody}
 use Rattle.word.specs.Number.{read_at}
-use Rattle.declaration.specs.Check.{Check, ◌when◌, first_failing}
+use Rattle.declaration.specs.Check.{Check, ◌when◌, first_failing, unless_refused}
 use Rattle.declaration.specs.Tag.{length_allowed, body_long}
-use Rattle.declaration.specs.declared.frame.Frame.{Frame}
-use Rattle.declaration.specs.declared.frame.Frame.TheVariants.{Field, Refused}
+use Rattle.declaration.specs.declared.frame.Field.{Field}
 
 -- tag and length come before the body
 abbrev pub field_header : ℕ
@@ -36,10 +36,10 @@ body_cut file at = ltb (length file) (at + field_header + length_at file at)
 -- "Order within a field: header cut, tag and length, 10, body cut"
 abbrev pub framing_checks : List ℕ → ℕ → List Check
 framing_checks file at =
-    (field_cut when header_cut file at) ∷
-    (bad_form when bad_tag_or_length file at) ∷
-    (long_body when body_too_long file at) ∷
-    (field_cut when body_cut file at) ∷
+    (FieldCut when header_cut file at) ∷
+    (BadForm when bad_tag_or_length file at) ∷
+    (LongBody when body_too_long file at) ∷
+    (FieldCut when body_cut file at) ∷
     []
 
 -- a field's body as that part of the file
@@ -50,12 +50,9 @@ body_at file at = take (length_at file at) (drop (at + field_header) file)
 abbrev pub field_end : List ℕ → ℕ → ℕ
 field_end file at = at + field_header + length_at file at
 
--- the field at a position, or the number of the first check that fails
-unfoldable pub frame_of : List ℕ → ℕ → Frame
-frame_of file at =
-    cond (eqb (first_failing (framing_checks file at)) accepted) (Field (tag_at file at) (at + field_header) (length_at file at)) (Refused (first_failing (framing_checks file at)))
+abbrev pub field_at : List ℕ → ℕ → Field
+field_at file at = record { tag = tag_at file at; start = at + field_header; length = length_at file at }
 
--- document 01's number for each answer
-abbrev pub frame_number : Frame → ℕ
-frame_number (Field tag start n) = accepted
-frame_number (Refused number) = number
+-- the field at a position, or the refusal of the first check that fails
+unfoldable pub frame_of : List ℕ → ℕ → Result Field Refusal
+frame_of file at = unless_refused (first_failing (framing_checks file at)) (field_at file at)

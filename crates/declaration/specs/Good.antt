@@ -123,7 +123,6 @@ pub record GoodFunctions (functions : List Function) (count : ℕ) : Type 0 wher
 
 -- an aperture and functions, whose capabilities have a layout, with config bytes outside of it
 pub record Good (d : Declaration) : Type 0 where
-  pub has : d.has_aperture ≡ true
   pub aperture : GoodAperture d.aperture
   pub functions : GoodFunctions d.functions d.count
   pub faultless : (k : ℕ) → k < d.count → Faultless (function_in d.functions k)

@@ -1,6 +1,7 @@
 -- The rows of document 01's table that what a field says can meet, each as one question about it and about what is declared so far.
-use Rattle.std.specs.Prelude.{Bool, true, false, not, ◌||◌, List, [], ◌∷◌, leb, eqb}
-use Rattle.refusal.specs.Number as number
+use Rattle.std.specs.Prelude.{Bool, false, not, ◌||◌, List, [], ◌∷◌, leb, eqb, is_some, is_none, is_err, Result, Ok, Err}
+use Rattle.refusal.specs.declared.refusal.Refusal.{Refusal}
+use Rattle.refusal.specs.declared.refusal.Refusal.TheVariants as refusal
 use Rattle.word.specs.Search.{all_below}
 use Rattle.address.specs.Layout.{bar_count, absent_vendor_id}
 use Rattle.address.specs.Limits.{Limits}
@@ -11,8 +12,13 @@ use Rattle.capability.specs.BadEffect.{effect_bad}
 use Rattle.declaration.specs.Check.{Check, ◌when◌}
 use Rattle.declaration.specs.Standing.{has_function, has_capability, has_intx, slot_used, device_bad}
 use Rattle.declaration.specs.declared.said.Said.{Said}
-use Rattle.declaration.specs.declared.said.Said.TheVariants.{Aperture, Function as NewFunction, Intx as NewIntx, Bar, ConfigByte, Capability, Effect, Bad}
+use Rattle.declaration.specs.declared.said.Said.TheVariants.{Aperture, Function as NewFunction, Intx as NewIntx, Bar, ConfigByte, Capability, Effect}
 use Rattle.declaration.specs.declared.so_far.SoFar.{SoFar}
+
+-- whether a row holds of what is said; of a badly formed body no row but 2 does
+abbrev pub says : (Said → Bool) → Result Said Refusal → Bool
+says row (Ok f) = row f
+says row (Err r) = false
 
 -- 10: "capability body above 253 bytes"
 abbrev pub is_long_body : Said → Bool
@@ -23,29 +29,20 @@ is_long_body (Bar slot size request) = false
 is_long_body (ConfigByte offset value mask) = false
 is_long_body (Capability id length) = too_long length
 is_long_body (Effect id offset length access) = false
-is_long_body Bad = false
 
 -- 2: "byte outside its set, automatic address not zero"
-abbrev pub is_bad_form : Said → Bool
-is_bad_form (Aperture start end) = false
-is_bad_form (NewFunction device identity) = false
-is_bad_form (NewIntx pin line) = false
-is_bad_form (Bar slot size request) = false
-is_bad_form (ConfigByte offset value mask) = false
-is_bad_form (Capability id length) = false
-is_bad_form (Effect id offset length access) = false
-is_bad_form Bad = true
+abbrev pub is_bad_form : Result Said Refusal → Bool
+is_bad_form f = is_err f
 
 -- 3: "Tag 1 comes first, once. Tags 3 to 6 belong to the latest function, tag 7 to the latest capability of that function; tag 3 at most once each."
 abbrev pub is_out_of_order : SoFar → Said → Bool
-is_out_of_order s (Aperture start end) = s.has_aperture
-is_out_of_order s (NewFunction device identity) = not s.has_aperture
+is_out_of_order s (Aperture start end) = is_some s.aperture
+is_out_of_order s (NewFunction device identity) = is_none s.aperture
 is_out_of_order s (NewIntx pin line) = not (has_function s) || has_intx s
 is_out_of_order s (Bar slot size request) = not (has_function s)
 is_out_of_order s (ConfigByte offset value mask) = not (has_function s)
 is_out_of_order s (Capability id length) = not (has_function s)
 is_out_of_order s (Effect id offset length access) = not (has_function s) || not (has_capability s)
-is_out_of_order s Bad = false
 
 -- 4: "one more than a limit above"
 abbrev pub is_above_limit : Limits → SoFar → Said → Bool
@@ -56,7 +53,6 @@ is_above_limit l s (Bar slot size request) = all_below (slot_used s.function) ba
 is_above_limit l s (ConfigByte offset value mask) = leb l.config_bytes s.function.contents.byte_count
 is_above_limit l s (Capability id length) = leb l.capabilities s.function.capabilities.count
 is_above_limit l s (Effect id offset length access) = leb l.effects s.function.capabilities.effect_count
-is_above_limit l s Bad = false
 
 -- 5: "device above 31 or declared twice; slot above 5 or used twice in the function"
 abbrev pub is_bad_device_or_slot : SoFar → Said → Bool
@@ -67,7 +63,6 @@ is_bad_device_or_slot s (Bar slot size request) = leb bar_count slot || slot_use
 is_bad_device_or_slot s (ConfigByte offset value mask) = false
 is_bad_device_or_slot s (Capability id length) = false
 is_bad_device_or_slot s (Effect id offset length access) = false
-is_bad_device_or_slot s Bad = false
 
 -- 6: "vendor 0xffff"
 abbrev pub is_absent_vendor : Said → Bool
@@ -78,7 +73,6 @@ is_absent_vendor (Bar slot size request) = false
 is_absent_vendor (ConfigByte offset value mask) = false
 is_absent_vendor (Capability id length) = false
 is_absent_vendor (Effect id offset length access) = false
-is_absent_vendor Bad = false
 
 -- 7: "size below 16, not a power of two, or above 4 GiB"
 abbrev pub is_bad_size : Said → Bool
@@ -89,7 +83,6 @@ is_bad_size (Bar slot size request) = not (size_ok size)
 is_bad_size (ConfigByte offset value mask) = false
 is_bad_size (Capability id length) = false
 is_bad_size (Effect id offset length access) = false
-is_bad_size Bad = false
 
 -- 8: "not start < end, or end above 4 GiB"
 abbrev pub is_bad_aperture : Said → Bool
@@ -100,7 +93,6 @@ is_bad_aperture (Bar slot size request) = false
 is_bad_aperture (ConfigByte offset value mask) = false
 is_bad_aperture (Capability id length) = false
 is_bad_aperture (Effect id offset length access) = false
-is_bad_aperture Bad = false
 
 -- 11: "effect empty, starts before 2, ends after its capability, overlaps an earlier one there, or covers a byte with mask not zero"
 abbrev pub is_bad_effect : SoFar → Said → Bool
@@ -111,21 +103,20 @@ is_bad_effect s (Bar slot size request) = false
 is_bad_effect s (ConfigByte offset value mask) = false
 is_bad_effect s (Capability id length) = false
 is_bad_effect s (Effect id offset length access) = effect_bad s.mask s.function.capabilities offset length
-is_bad_effect s Bad = false
 
 -- ".. other cases of 2, then 3, 4, 5, 6, 7, 8, 11"
-abbrev pub rule_checks : Limits → SoFar → Said → List Check
+abbrev pub rule_checks : Limits → SoFar → Result Said Refusal → List Check
 rule_checks l s f =
-    (number.bad_form when is_bad_form f) ∷
-    (number.out_of_order when is_out_of_order s f) ∷
-    (number.above_limit when is_above_limit l s f) ∷
-    (number.bad_device_or_slot when is_bad_device_or_slot s f) ∷
-    (number.absent_vendor when is_absent_vendor f) ∷
-    (number.bad_size when is_bad_size f) ∷
-    (number.bad_aperture when is_bad_aperture f) ∷
-    (number.bad_effect when is_bad_effect s f) ∷
+    (refusal.BadForm when is_bad_form f) ∷
+    (refusal.OutOfOrder when says (is_out_of_order s) f) ∷
+    (refusal.AboveLimit when says (is_above_limit l s) f) ∷
+    (refusal.BadDeviceOrSlot when says (is_bad_device_or_slot s) f) ∷
+    (refusal.AbsentVendor when says is_absent_vendor f) ∷
+    (refusal.BadSize when says is_bad_size f) ∷
+    (refusal.BadAperture when says is_bad_aperture f) ∷
+    (refusal.BadEffect when says (is_bad_effect s) f) ∷
     []
 
 -- for a body that was not framed too: 10 first, then these
-abbrev pub field_checks : Limits → SoFar → Said → List Check
-field_checks l s f = (number.long_body when is_long_body f) ∷ rule_checks l s f
+abbrev pub field_checks : Limits → SoFar → Result Said Refusal → List Check
+field_checks l s f = (refusal.LongBody when says is_long_body f) ∷ rule_checks l s f

@@ -1,6 +1,6 @@
 -- What a field does to the declaration so far: it is refused by the first check that fails, or the declaration has it.
-use Rattle.std.specs.Prelude.{ℕ, ◌+◌, ◌-◌, true, cond, List, eqb, length, set, Some}
-use Rattle.refusal.specs.Number.{accepted}
+use Rattle.std.specs.Prelude.{ℕ, ◌+◌, ◌-◌, List, length, set, Some, Result, Ok, Err}
+use Rattle.refusal.specs.declared.refusal.Refusal.{Refusal}
 use Rattle.word.specs.Number.{part_of}
 use Rattle.word.specs.Store.{laid_over}
 use Rattle.address.specs.Layout.{standard_header_end}
@@ -15,17 +15,16 @@ use Rattle.capability.specs.declared.declared.Capabilities.{Capabilities}
 use Rattle.config.specs.declared.function.Contents.{Contents}
 use Rattle.config.specs.declared.function.Function.{Function}
 use Rattle.declaration.specs.Blank.{empty_function, no_mask}
-use Rattle.declaration.specs.Check.{first_failing}
+use Rattle.declaration.specs.Check.{first_failing, unless_refused}
 use Rattle.declaration.specs.Said.{said_of}
 use Rattle.declaration.specs.Row.{field_checks}
 use Rattle.declaration.specs.declared.said.Said.{Said}
-use Rattle.declaration.specs.declared.said.Said.TheVariants.{Aperture, Function as NewFunction, Intx, Bar, ConfigByte, Capability, Effect, Bad}
+use Rattle.declaration.specs.declared.said.Said.TheVariants.{Aperture, Function as NewFunction, Intx, Bar, ConfigByte, Capability, Effect}
 use Rattle.declaration.specs.declared.so_far.SoFar.{SoFar}
-use Rattle.declaration.specs.declared.take.Taken.{Taken}
 
 -- the declaration so far with another latest function
 abbrev pub with_function : SoFar → Function → SoFar
-with_function s f = record { has_aperture = s.has_aperture; aperture = s.aperture; devices = s.devices; count = s.count; function = f; mask = s.mask }
+with_function s f = record { aperture = s.aperture; devices = s.devices; count = s.count; function = f; mask = s.mask }
 
 abbrev pub with_contents : Function → Contents → Function
 with_contents f c = record { device = f.device; contents = c; bars = f.bars; capabilities = f.capabilities }
@@ -62,16 +61,15 @@ with_byte c o value mask =
 
 abbrev pub with_field : SoFar → Said → List ℕ → SoFar
 with_field s (Aperture start end) body =
-    record { has_aperture = true; aperture = record { start = start; end = end }; devices = s.devices; count = s.count; function = s.function; mask = s.mask }
+    record { aperture = Some (record { start = start; end = end }); devices = s.devices; count = s.count; function = s.function; mask = s.mask }
 with_field s (NewFunction device identity) body =
-    record { has_aperture = s.has_aperture; aperture = s.aperture; devices = set s.devices s.count device; count = s.count + 1; function = empty_function device identity; mask = no_mask }
+    record { aperture = s.aperture; devices = set s.devices s.count device; count = s.count + 1; function = empty_function device identity; mask = no_mask }
 with_field s (Intx pin line) body = with_function s (with_contents s.function (with_intx s.function.contents pin line))
 with_field s (Bar k size request) body =
     with_function s (record { device = s.function.device; contents = s.function.contents; bars = set s.function.bars k (memory_bar (slot k) size request); capabilities = s.function.capabilities })
 with_field s (ConfigByte o value mask) body = with_function s (with_contents s.function (with_byte s.function.contents o value mask))
 with_field s (Capability id n) body =
     record {
-      has_aperture = s.has_aperture;
       aperture = s.aperture;
       devices = s.devices;
       count = s.count;
@@ -80,17 +78,14 @@ with_field s (Capability id n) body =
     }
 with_field s (Effect id o w access) body =
     with_function s (with_capabilities s.function (with_effect s.function.capabilities (effect id (latest s.function.capabilities) o w access)))
-with_field s Bad body = s
 
-abbrev pub taken : ℕ → SoFar → Taken
-taken number s = record { number = number; state = s }
+abbrev pub with_said : SoFar → Result Said Refusal → List ℕ → SoFar
+with_said s (Ok f) body = with_field s f body
+with_said s (Err r) body = s
 
--- the field is refused and changes nothing, or the declaration has it
-abbrev pub taken_by : ℕ → SoFar → Said → List ℕ → Taken
-taken_by number s f body = cond (eqb number accepted) (taken accepted (with_field s f body)) (taken number s)
+-- the refusal of the first check that fails, or the declaration with the field
+unfoldable pub taken_said : Limits → SoFar → Result Said Refusal → List ℕ → Result SoFar Refusal
+taken_said l s f body = unless_refused (first_failing (field_checks l s f)) (with_said s f body)
 
-unfoldable pub taken_said : Limits → SoFar → Said → List ℕ → Taken
-taken_said l s f body = taken_by (first_failing (field_checks l s f)) s f body
-
-abbrev pub taken_of : Limits → SoFar → ℕ → List ℕ → Taken
+abbrev pub taken_of : Limits → SoFar → ℕ → List ℕ → Result SoFar Refusal
 taken_of l s tag body = taken_said l s (said_of tag body) body

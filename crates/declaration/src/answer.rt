@@ -1,129 +1,98 @@
-// The answer to a file: the declaration, or a refusal with number and place.
+// The answer to a file: the declaration, or a refusal with its place.
 ghost use Rattle.std.specs.Prelude.{◌≡◌};
 ghost use Rattle.address.specs.Limits.{limits};
-ghost use Rattle.declaration.specs.Answer.{no_declaration, refused_with, checked_whole, declared_from, declared_by, declaration_number};
+ghost use Rattle.declaration.specs.Answer.{first_refusal, checked_whole, declared_from, declared_by};
 
 use crate::finished::Finished;
 use crate::reading::{Reading, read_fields};
-use crate::whole::{fault_of, first_faulty};
+use crate::whole::fault_of;
 use address::limits::FUNCTION_LIMIT;
 use bar::Aperture;
 use config::Function;
+use refusal::Refusal;
 
 // Where a refusal is: at an offset of the file, or at an index of a device.
-#[derive(Clone, Copy)]
+#[derive(Clone, Copy, Debug, PartialEq, Eq)]
 pub enum Place {
     Offset(usize),
     Index { device: u8, index: usize },
 }
 
-#[derive(Clone, Copy)]
-pub enum DeclarationAnswer {
-    Accepted,
-    Refused { number: u8, place: Place },
+// Why a file is refused, and where.
+#[derive(Clone, Copy, Debug, PartialEq, Eq)]
+pub struct DeclarationRefusal {
+    pub refusal: Refusal,
+    pub place: Place,
 }
 
 // A bus as it is declared, its functions in device order; what lies past the count is blank.
 #[derive(Clone, Copy)]
 pub struct Declaration {
-    pub has_aperture: bool,
     pub aperture: Aperture,
     pub functions: [Function; FUNCTION_LIMIT],
     pub count: usize,
 }
 
-// The answer, and the declaration; the empty one where it is refused.
-#[derive(Clone, Copy)]
-pub struct Declared {
-    pub answer: DeclarationAnswer,
-    pub declaration: Declaration,
-}
-
-impl DeclarationAnswer {
-    // Document 01's number for the answer.
-    pub fn number(self) -> u8
-        ensures { result ≡ declaration_number self }
-    {
-        match self {
-            DeclarationAnswer::Accepted => refusal::ACCEPTED,
-            DeclarationAnswer::Refused { number, place: _ } => number,
-        }
-    }
-}
-
-impl Declaration {
-    // No aperture and no functions.
-    pub fn none() -> Declaration
-        ensures { result ≡ no_declaration }
-    {
-        let finished = Finished::new();
-        let functions = finished.functions;
-        Declaration {
-            has_aperture: false,
-            aperture: Aperture { start: 0, end: 0 },
-            functions,
-            count: 0,
-        }
-    }
-}
-
-fn refused_with(number: u8, place: Place) -> Declared
-    ensures { result ≡ refused_with number place }
+// The first fault of the functions in device order.
+fn first_refusal(finished: Finished) -> Option<DeclarationRefusal>
+    ensures { result ≡ first_refusal finished }
 {
-    let declaration = Declaration::none();
-    Declared {
-        answer: DeclarationAnswer::Refused { number, place },
-        declaration,
+    for k in 0..word::at_most(finished.count, FUNCTION_LIMIT) {
+        let function = finished.functions[k];
+        if let Some(fault) = fault_of(function) {
+            return Some(DeclarationRefusal {
+                refusal: fault.refusal,
+                place: Place::Index {
+                    device: function.device,
+                    index: fault.index,
+                },
+            });
+        }
     }
+    None
 }
 
 // After the whole file: the functions are checked in device order.
-fn checked_whole(aperture: Aperture, finished: Finished) -> Declared
+#[tactic(auto, unfolding(crate::specs::Answer::checked_whole))]
+fn checked_whole(aperture: Aperture, finished: Finished) -> Result<Declaration, DeclarationRefusal>
     ensures { result ≡ checked_whole aperture finished }
 {
-    let k = first_faulty(finished);
-    let count = finished.count;
+    if let Some(refusal) = first_refusal(finished) {
+        return Err(refusal);
+    }
     let functions = finished.functions;
-    if k < word::at_most(count, FUNCTION_LIMIT) {
-        let function = functions[k];
-        let fault = fault_of(function);
-        return refused_with(
-            fault.number,
-            Place::Index {
-                device: function.device,
-                index: fault.index,
-            },
-        );
-    }
-    Declared {
-        answer: DeclarationAnswer::Accepted,
-        declaration: Declaration {
-            has_aperture: true,
-            aperture,
-            functions,
-            count,
-        },
-    }
+    Ok(Declaration {
+        aperture,
+        functions,
+        count: finished.count,
+    })
 }
 
 // The answer where the reading of a file of `end` bytes stands so at its end.
-pub(crate) fn declared_from(end: usize, reading: Reading) -> Declared
+#[tactic(auto, unfolding(crate::specs::Answer::declared_from))]
+pub(crate) fn declared_from(end: usize, reading: Reading) -> Result<Declaration, DeclarationRefusal>
     ensures { result ≡ declared_from end reading }
 {
-    if reading.number != refusal::ACCEPTED {
-        return refused_with(reading.number, Place::Offset(reading.at));
+    if let Some(refusal) = reading.refusal {
+        return Err(DeclarationRefusal {
+            refusal,
+            place: Place::Offset(reading.at),
+        });
     }
     let now = reading.now;
-    let placed = now.has_aperture;
-    if !placed {
-        return refused_with(refusal::OUT_OF_ORDER, Place::Offset(end));
-    }
+    let Some(aperture) = now.aperture else {
+        return Err(DeclarationRefusal {
+            refusal: Refusal::OutOfOrder,
+            place: Place::Offset(end),
+        });
+    };
     let finished = reading.finished;
-    checked_whole(now.aperture, finished.with_latest(now))
+    checked_whole(aperture, finished.with_latest(now))
 }
 
 // Reads a declaration file.
-pub fn read_declaration(file: &[u8]) -> Declared
+#[tactic(auto, unfolding(crate::specs::Answer::declared_by))]
+pub fn read_declaration(file: &[u8]) -> Result<Declaration, DeclarationRefusal>
     ensures { result ≡ declared_by limits file.now }
 {
     declared_from(file.len(), read_fields(file))

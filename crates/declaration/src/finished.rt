@@ -25,13 +25,11 @@ fn opened_at(
     ensures { result ≡ opened no_function functions place function }
 {
     let mut out = functions;
-    let mut k = FUNCTION_LIMIT - 1;
-    while place < k {
+    out[place] = function;
+    for k in place + 1..FUNCTION_LIMIT {
         let before = functions[k - 1];
         out[k] = before;
-        k -= 1;
     }
-    out[place] = function;
     out
 }
 
@@ -51,15 +49,13 @@ impl Finished {
         requires { self.count ≤ function_room }
         ensures { result ≡ place_in self device }
     {
-        let mut k = 0;
-        while k < self.count {
+        for k in 0..self.count {
             let function = self.functions[k];
             if device < function.device {
                 return k;
             }
-            k += 1;
         }
-        k
+        self.count
     }
 
     // With one more function.

@@ -15,12 +15,12 @@ mod take_capability;
 mod take_function;
 mod whole;
 
-pub use answer::{Declaration, DeclarationAnswer, Declared, Place, read_declaration};
+pub use answer::{Declaration, DeclarationRefusal, Place, read_declaration};
 pub use finished::Finished;
-pub use frame::{Frame, field_body, frame_at, more_at, next_at};
+pub use frame::{Field, field_body, frame_at, more_at, next_at};
 pub use reader::Reader;
 pub use reading::{Reading, read_fields};
 pub use said::{Said, say};
 pub use so_far::SoFar;
-pub use take::{Taken, take_field};
+pub use take::take_field;
 pub use whole::Fault;

@@ -3,7 +3,8 @@ ghost use Rattle.std.specs.Prelude.{◌≡◌};
 ghost use Rattle.declaration.specs.Frame.{frame_of};
 ghost use Rattle.declaration.specs.Reader.{more_at, field_body, next_from};
 
-use crate::frame::{Frame, field_body, frame_at, more_at, next_at};
+use crate::frame::{Field, field_body, frame_at, more_at, next_at};
+use refusal::Refusal;
 
 #[derive(Clone, Copy)]
 pub struct Reader<'a> {
@@ -27,7 +28,7 @@ impl<'a> Reader<'a> {
     }
 
     // The next field, or its refusal.
-    pub fn next(self) -> Frame
+    pub fn next(self) -> Result<Field, Refusal>
         ensures { result ≡ frame_of self.entry.file.now self.entry.at }
     {
         frame_at(self.file, self.at)

@@ -4,14 +4,15 @@ ghost use Rattle.address.specs.Limits.{limits};
 ghost use Rattle.declaration.specs.Reading.{fields_of};
 
 use crate::finished::Finished;
-use crate::frame::{Frame, frame_at};
+use crate::frame::frame_at;
 use crate::so_far::SoFar;
 use crate::take::take_field;
+use refusal::Refusal;
 
-// How the reading stands: the number of the refusal, or 0; the position of the refused field, or of the next one.
+// How the reading stands: the refusal, if there is one; the position of the refused field, or of the next one.
 #[derive(Clone, Copy)]
 pub struct Reading {
-    pub number: u8,
+    pub refusal: Option<Refusal>,
     pub at: usize,
     pub now: SoFar,
     pub finished: Finished,
@@ -24,38 +25,39 @@ pub fn read_fields(file: &[u8]) -> Reading
     let mut at = 0;
     let mut now = SoFar::new();
     let mut finished = Finished::new();
+    // It goes by the position, and each field says how far.
     while at < file.len() {
-        match frame_at(file, at) {
-            Frame::Refused(number) => {
+        let field = match frame_at(file, at) {
+            Ok(field) => field,
+            Err(refusal) => {
                 return Reading {
-                    number,
+                    refusal: Some(refusal),
                     at,
                     now,
                     finished,
                 };
             }
-            Frame::Field { tag, start, length } => {
-                let taken = take_field(now, tag, word::part(file, start, length));
-                let number = taken.number;
-                if number != refusal::ACCEPTED {
-                    return Reading {
-                        number,
-                        at,
-                        now,
-                        finished,
-                    };
-                }
-                let next = taken.state;
-                if next.count != now.count {
-                    finished = finished.with_latest(now);
-                }
-                now = next;
-                at = start + length;
+        };
+        let body = word::part(file, field.start, field.length);
+        let next = match take_field(now, field.tag, body) {
+            Ok(next) => next,
+            Err(refusal) => {
+                return Reading {
+                    refusal: Some(refusal),
+                    at,
+                    now,
+                    finished,
+                };
             }
+        };
+        if next.count != now.count {
+            finished = finished.with_latest(now);
         }
+        now = next;
+        at = field.start + field.length;
     }
     Reading {
-        number: refusal::ACCEPTED,
+        refusal: None,
         at,
         now,
         finished,

@@ -1,14 +1,15 @@
 // Form: what a field's body says.
 ghost use Rattle.std.specs.Prelude.{◌≡◌};
 ghost use Rattle.word.specs.Number.{read_at};
-ghost use Rattle.declaration.specs.Said.{aperture_said, function_said, intx_said, bar_said, config_byte_said, capability_said, effect_said, said_by, said_of, said_number};
+ghost use Rattle.declaration.specs.Said.{aperture_said, function_said, intx_said, bar_said, config_byte_said, capability_said, effect_said, said_of};
 
-use crate::tag;
+use crate::tag::Tag;
 use bar::Request;
 use capability::EffectAccess;
 use config::Identity;
+use refusal::Refusal;
 
-// What a field says; Bad is refusal 2. The bytes of a capability's body and masks stay in the field's body.
+// What a field says. The bytes of a capability's body and masks stay in the field's body.
 #[derive(Clone, Copy)]
 pub enum Said {
     Aperture {
@@ -43,41 +44,6 @@ pub enum Said {
         length: u8,
         access: EffectAccess,
     },
-    Bad,
-}
-
-impl Said {
-    // Document 01's number where the body is badly formed.
-    pub fn number(self) -> u8
-        ensures { result ≡ said_number self }
-    {
-        match self {
-            Said::Aperture { start: _, end: _ } => refusal::ACCEPTED,
-            Said::Function {
-                device: _,
-                identity: _,
-            } => refusal::ACCEPTED,
-            Said::Intx { pin: _, line: _ } => refusal::ACCEPTED,
-            Said::Bar {
-                slot: _,
-                size: _,
-                request: _,
-            } => refusal::ACCEPTED,
-            Said::ConfigByte {
-                offset: _,
-                value: _,
-                mask: _,
-            } => refusal::ACCEPTED,
-            Said::Capability { id: _, length: _ } => refusal::ACCEPTED,
-            Said::Effect {
-                id: _,
-                offset: _,
-                length: _,
-                access: _,
-            } => refusal::ACCEPTED,
-            Said::Bad => refusal::BAD_FORM,
-        }
-    }
 }
 
 fn word_at(body: &[u8], at: usize) -> u16
@@ -114,23 +80,23 @@ fn say_function(body: &[u8]) -> Said
     }
 }
 
-fn say_intx(body: &[u8]) -> Said
+fn say_intx(body: &[u8]) -> Result<Said, Refusal>
     ensures { result ≡ intx_said body.now }
 {
     let pin = word::byte_at(body, 0);
     if pin < 1 {
-        return Said::Bad;
+        return Err(Refusal::BadForm);
     }
     if 4 < pin {
-        return Said::Bad;
+        return Err(Refusal::BadForm);
     }
-    Said::Intx {
+    Ok(Said::Intx {
         pin,
         line: word::byte_at(body, 1),
-    }
+    })
 }
 
-fn say_bar(body: &[u8]) -> Said
+fn say_bar(body: &[u8]) -> Result<Said, Refusal>
     ensures { result ≡ bar_said body.now }
 {
     let slot = word::byte_at(body, 0);
@@ -139,22 +105,22 @@ fn say_bar(body: &[u8]) -> Said
     let address = word::read(body, 10, 8);
     if kind == 0 {
         if address == 0 {
-            return Said::Bar {
+            return Ok(Said::Bar {
                 slot,
                 size,
                 request: Request::Auto,
-            };
+            });
         }
-        return Said::Bad;
+        return Err(Refusal::BadForm);
     }
     if kind == 1 {
-        return Said::Bar {
+        return Ok(Said::Bar {
             slot,
             size,
             request: Request::Fixed(address),
-        };
+        });
     }
-    Said::Bad
+    Err(Refusal::BadForm)
 }
 
 fn say_config_byte(body: &[u8]) -> Said
@@ -176,46 +142,39 @@ fn say_capability(body: &[u8]) -> Said
     }
 }
 
-fn say_effect(body: &[u8]) -> Said
+fn say_effect(body: &[u8]) -> Result<Said, Refusal>
     ensures { result ≡ effect_said body.now }
 {
     let id = word_at(body, 0);
     let offset = word::byte_at(body, 2);
     let length = word::byte_at(body, 3);
-    match EffectAccess::new(word::byte_at(body, 4)) {
-        Ok(access) => Said::Effect {
-            id,
-            offset,
-            length,
-            access,
-        },
-        Err(_) => Said::Bad,
-    }
-}
-
-// What a body says by its tag.
-fn say_by(tag: u8, body: &[u8]) -> Said
-    ensures { result ≡ said_by tag body.now }
-{
-    match tag {
-        tag::APERTURE => say_aperture(body),
-        tag::FUNCTION => say_function(body),
-        tag::INTX => say_intx(body),
-        tag::BAR => say_bar(body),
-        tag::CONFIG_BYTE => say_config_byte(body),
-        tag::CAPABILITY => say_capability(body),
-        tag::EFFECT => say_effect(body),
-        _ => Said::Bad,
-    }
+    let access = EffectAccess::new(word::byte_at(body, 4))?;
+    Ok(Said::Effect {
+        id,
+        offset,
+        length,
+        access,
+    })
 }
 
 // What a field of this tag and body says; nothing where the body has not a length that the tag allows.
-pub fn say(tag: u8, body: &[u8]) -> Said
+#[tactic(auto, unfolding(crate::specs::Said::said_of))]
+pub fn say(tag: u8, body: &[u8]) -> Result<Said, Refusal>
     ensures { result ≡ said_of tag body.now }
 {
-    let allowed = tag::length_allowed(tag, body.len());
-    if allowed {
-        return say_by(tag, body);
+    let Some(tag) = Tag::new(tag) else {
+        return Err(Refusal::BadForm);
+    };
+    if !tag.allows(body.len()) {
+        return Err(Refusal::BadForm);
     }
-    Said::Bad
+    match tag {
+        Tag::Aperture => Ok(say_aperture(body)),
+        Tag::Function => Ok(say_function(body)),
+        Tag::Intx => say_intx(body),
+        Tag::Bar => say_bar(body),
+        Tag::ConfigByte => Ok(say_config_byte(body)),
+        Tag::Capability => Ok(say_capability(body)),
+        Tag::Effect => say_effect(body),
+    }
 }

@@ -11,8 +11,7 @@ use config::{BODY_SPACE, ConfigByte, Contents, Function, Identity};
 // The aperture, the devices in the order of the file, the latest function, and the write masks of its latest capability.
 #[derive(Clone, Copy)]
 pub struct SoFar {
-    pub has_aperture: bool,
-    pub aperture: Aperture,
+    pub aperture: Option<Aperture>,
     pub devices: [u8; FUNCTION_LIMIT],
     pub count: usize,
     pub function: Function,
@@ -84,8 +83,7 @@ impl SoFar {
         ensures { result ≡ nothing_so_far }
     {
         SoFar {
-            has_aperture: false,
-            aperture: Aperture { start: 0, end: 0 },
+            aperture: None,
             devices: [0u8; FUNCTION_LIMIT],
             count: 0,
             function: no_function(),

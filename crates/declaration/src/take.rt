@@ -1,39 +1,18 @@
 // What one field does to the declaration so far.
 ghost use Rattle.std.specs.Prelude.{◌≡◌};
 ghost use Rattle.address.specs.Limits.{limits};
-ghost use Rattle.refusal.specs.Number.{accepted};
-ghost use Rattle.declaration.specs.Take.{taken, taken_of};
+ghost use Rattle.declaration.specs.Take.{taken_of};
 
 use crate::said::{Said, say};
 use crate::so_far::SoFar;
+use refusal::Refusal;
 
-// The number of the refusal, or 0, and the declaration with the field, or as it was.
-#[derive(Clone, Copy)]
-pub struct Taken {
-    pub number: u8,
-    pub state: SoFar,
-}
-
-pub(crate) fn refused(number: u8, state: SoFar) -> Taken
-    ensures { result ≡ taken number state }
-{
-    Taken { number, state }
-}
-
-pub(crate) fn accepted(state: SoFar) -> Taken
-    ensures { result ≡ taken accepted state }
-{
-    Taken {
-        number: refusal::ACCEPTED,
-        state,
-    }
-}
-
-// Takes a field of this tag and body; a refused one changes nothing.
-pub fn take_field(so_far: SoFar, tag: u8, body: &[u8]) -> Taken
+// The declaration with the field of this tag and body, or its refusal.
+#[tactic(auto, unfolding(crate::specs::Take::taken_said))]
+pub fn take_field(so_far: SoFar, tag: u8, body: &[u8]) -> Result<SoFar, Refusal>
     ensures { result ≡ taken_of limits so_far tag body.now }
 {
-    match say(tag, body) {
+    match say(tag, body)? {
         Said::Aperture { start, end } => so_far.take_aperture(start, end),
         Said::Function { device, identity } => so_far.take_function(device, identity),
         Said::Intx { pin, line } => so_far.take_intx(pin, line),
@@ -54,6 +33,5 @@ pub fn take_field(so_far: SoFar, tag: u8, body: &[u8]) -> Taken
             length,
             access,
         } => so_far.take_effect(id, offset, length, access),
-        Said::Bad => refused(refusal::BAD_FORM, so_far),
     }
 }

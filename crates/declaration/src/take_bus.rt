@@ -1,35 +1,30 @@
 // Fields of the bus: the aperture, and a new function.
-ghost use Rattle.std.specs.Prelude.{[], ◌≡◌, ◌≤◌};
+ghost use Rattle.std.specs.Prelude.{[], ◌≡◌, ◌≤◌, Ok};
 ghost use Rattle.address.specs.Limits.{limits, function_room};
 ghost use Rattle.declaration.specs.Standing.{device_used, device_bad};
 ghost use Rattle.declaration.specs.Take.{taken_said};
 
 use crate::said::Said;
 use crate::so_far::{SoFar, empty_function, no_mask};
-use crate::take::{Taken, accepted, refused};
 use address::config_layout;
 use address::limits::FUNCTION_LIMIT;
 use bar::Aperture;
 use config::Identity;
+use refusal::Refusal;
 
 const MOST_DEVICE: u8 = 31;
 
 impl SoFar {
-    pub(crate) fn take_aperture(self, start: u64, end: u64) -> Taken
-        ensures { result ≡ taken_said limits self (Said.Aperture start end) [] }
+    pub(crate) fn take_aperture(self, start: u64, end: u64) -> Result<SoFar, Refusal>
+        ensures { result ≡ taken_said limits self (Ok (Said.Aperture start end)) [] }
     {
-        if self.has_aperture {
-            return refused(refusal::OUT_OF_ORDER, self);
+        if self.aperture.is_some() {
+            return Err(Refusal::OutOfOrder);
         }
-        match Aperture::new(start, end) {
-            Ok(aperture) => {
-                let mut out = self;
-                out.has_aperture = true;
-                out.aperture = aperture;
-                accepted(out)
-            }
-            Err(_) => refused(refusal::BAD_APERTURE, self),
-        }
+        let aperture = Aperture::new(start, end)?;
+        let mut out = self;
+        out.aperture = Some(aperture);
+        Ok(out)
     }
 
     // Whether a device is declared.
@@ -37,12 +32,10 @@ impl SoFar {
         requires { self.count ≤ function_room }
         ensures { result ≡ device_used self device }
     {
-        let mut i = 0;
-        while i < self.count {
+        for i in 0..self.count {
             if self.devices[i] == device {
                 return true;
             }
-            i += 1;
         }
         false
     }
@@ -58,24 +51,23 @@ impl SoFar {
         self.device_used(device)
     }
 
-    pub(crate) fn take_function(self, device: u8, identity: Identity) -> Taken
-        ensures { result ≡ taken_said limits self (Said.Function device identity) [] }
+    pub(crate) fn take_function(self, device: u8, identity: Identity) -> Result<SoFar, Refusal>
+        ensures { result ≡ taken_said limits self (Ok (Said.Function device identity)) [] }
     {
         let vendor = identity.vendor;
-        let placed = self.has_aperture;
-        if !placed {
-            return refused(refusal::OUT_OF_ORDER, self);
+        if self.aperture.is_none() {
+            return Err(Refusal::OutOfOrder);
         }
         let i = self.count;
         if FUNCTION_LIMIT <= i {
-            return refused(refusal::ABOVE_LIMIT, self);
+            return Err(Refusal::AboveLimit);
         }
         let bad = self.device_bad(device);
         if bad {
-            return refused(refusal::BAD_DEVICE_OR_SLOT, self);
+            return Err(Refusal::BadDeviceOrSlot);
         }
         if vendor == config_layout::ABSENT_VENDOR_ID {
-            return refused(refusal::ABSENT_VENDOR, self);
+            return Err(Refusal::AbsentVendor);
         }
         let mut out = self;
         out.devices[i] = device;
@@ -84,6 +76,6 @@ impl SoFar {
         out.function = function;
         let mask = no_mask();
         out.mask = mask;
-        accepted(out)
+        Ok(out)
     }
 }

@@ -1,5 +1,5 @@
 // Fields of the latest function's capabilities: a capability, and an effect of the latest one.
-ghost use Rattle.std.specs.Prelude.{[], ◌≡◌, ◌≤◌};
+ghost use Rattle.std.specs.Prelude.{[], ◌≡◌, ◌≤◌, Ok};
 ghost use Rattle.address.specs.Limits.{limits};
 ghost use Rattle.capability.specs.Size.{body_most};
 ghost use Rattle.declaration.specs.Take.{body_place, mask_part, with_part, bodies_with, taken_said};
@@ -7,12 +7,12 @@ ghost use Rattle.declaration.specs.Blank.{no_mask};
 
 use crate::said::Said;
 use crate::so_far::{SoFar, no_mask};
-use crate::take::{Taken, accepted, refused};
 use address::config_layout::CONFIG_STANDARD_HEADER_END;
 use capability::{
     CAPABILITY_BODY_MAX_SIZE, CAPABILITY_HEADER_SIZE, Capabilities, Capability, EffectAccess,
 };
 use config::Contents;
+use refusal::Refusal;
 
 // Where in the bytes from 0x40 on the body of the next capability lies.
 fn body_place(capabilities: Capabilities) -> usize
@@ -56,47 +56,48 @@ fn bodies_with(
 }
 
 impl SoFar {
-    pub(crate) fn take_capability(self, id: u8, length: usize, body: &[u8]) -> Taken
-        ensures { result ≡ taken_said limits self (Said.Capability id length) body.now }
+    pub(crate) fn take_capability(
+        self,
+        id: u8,
+        length: usize,
+        body: &[u8],
+    ) -> Result<SoFar, Refusal>
+        ensures { result ≡ taken_said limits self (Ok (Said.Capability id length)) body.now }
     {
-        let Ok(capability) = Capability::new(id, length) else {
-            return refused(refusal::LONG_BODY, self);
-        };
+        let capability = Capability::new(id, length)?;
         if self.count == 0 {
-            return refused(refusal::OUT_OF_ORDER, self);
+            return Err(Refusal::OutOfOrder);
         }
         let mut function = self.function;
         let capabilities = function.capabilities;
-        match capabilities.add_capability(capability) {
-            Err(refusal) => refused(refusal.number(), self),
-            Ok(with) => {
-                let contents = bodies_with(function.contents, capabilities, length, body);
-                function.contents = contents;
-                function.capabilities = with;
-                let mut out = self;
-                out.function = function;
-                let mask = mask_of(length, body);
-                out.mask = mask;
-                accepted(out)
-            }
-        }
+        let with = capabilities.add_capability(capability)?;
+        let contents = bodies_with(function.contents, capabilities, length, body);
+        function.contents = contents;
+        function.capabilities = with;
+        let mut out = self;
+        out.function = function;
+        let mask = mask_of(length, body);
+        out.mask = mask;
+        Ok(out)
     }
 
-    pub(crate) fn take_effect(self, id: u16, offset: u8, length: u8, access: EffectAccess) -> Taken
-        ensures { result ≡ taken_said limits self (Said.Effect id offset length access) [] }
+    pub(crate) fn take_effect(
+        self,
+        id: u16,
+        offset: u8,
+        length: u8,
+        access: EffectAccess,
+    ) -> Result<SoFar, Refusal>
+        ensures { result ≡ taken_said limits self (Ok (Said.Effect id offset length access)) [] }
     {
         if self.count == 0 {
-            return refused(refusal::OUT_OF_ORDER, self);
+            return Err(Refusal::OutOfOrder);
         }
         let mut function = self.function;
         let capabilities = function.capabilities;
         let mask = self.mask;
-        match capabilities.add_effect(&mask, id, offset, length, access) {
-            Err(refusal) => refused(refusal.number(), self),
-            Ok(with) => {
-                function.capabilities = with;
-                accepted(self.with_function(function))
-            }
-        }
+        let with = capabilities.add_effect(&mask, id, offset, length, access)?;
+        function.capabilities = with;
+        Ok(self.with_function(function))
     }
 }

@@ -1,6 +1,6 @@
 -- Demand 3. "On a bus from an accepted file, after any accesses and resets, if no BAR of the declared function is showing its size, the enumeration of document 01 reports the declared identity, pin, slots, sizes, capability ids and offsets, and the addresses that memory lookup uses, and leaves those addresses as they were. So two functions with equal reports agree in all of these. A 4 GiB BAR counts as an empty slot."
 -- proofs/Demand.antt proves `Demand` and what goes with it: `Agreement`, `Absence`, `Restoration`, `Enumerations`, `OnlyAnswer`.
-use Rattle.std.specs.Prelude.{ℕ, ◌+◌, ◌-◌, ◌<◌, ◌≤◌, Bool, true, false, ◌||◌, cond, List, [], ◌∷◌, ◌++◌, ◌≡◌, eqb, get_or}
+use Rattle.std.specs.Prelude.{ℕ, ◌+◌, ◌-◌, ◌<◌, ◌≤◌, Bool, true, false, ◌||◌, cond, List, [], ◌∷◌, ◌++◌, ◌≡◌, eqb, get_or, is_ok}
 use Rattle.word.specs.Table.{table}
 use Rattle.word.specs.Width.{width_ok}
 use Rattle.address.specs.Layout.{bar_count}
@@ -15,12 +15,11 @@ use Rattle.config.specs.declared.function.Function.{Function}
 use Rattle.config.specs.declared.state.FunctionState.{FunctionState}
 use Rattle.declaration.specs.Good.{Bytes}
 use Rattle.declaration.specs.declared.answer.Declaration.{Declaration}
-use Rattle.declaration.specs.declared.answer.DeclarationAnswer.TheVariants as answer
 use Rattle.bus.specs.Bus.{function_at, key_of}
 use Rattle.bus.specs.Held.{Looked}
 use Rattle.bus.specs.Lookup.{most_lookup, decodes, lookup_of}
 use Rattle.bus.specs.Outcome.{declaration_of}
-use Rattle.bus.specs.Start.{declared_function, addresses_in, start_of}
+use Rattle.bus.specs.Start.{declared_function, addresses_in, bus_given, start_of}
 use Rattle.bus.specs.declared.memory_lookup.LookupAnswer.{LookupAnswer}
 use Rattle.bus.specs.declared.memory_lookup.LookupAnswer.TheVariants as lookup
 use Rattle.bus.specs.declared.state.Bus.{Bus}
@@ -33,14 +32,14 @@ use Rattle.enumeration.specs.declared.report.SlotReport.{SlotReport}
 -- an accepted file
 pub record Accepted (file : List ℕ) : Type 0 where
   pub bytes : Bytes file
-  pub answer : (start_of limits file).answer ≡ answer.Accepted
+  pub answer : is_ok (start_of limits file) ≡ true
 
 -- what it declares, and the bus that it starts
 abbrev pub declared : List ℕ → Declaration
 declared file = declaration_of limits file
 
 abbrev pub started : List ℕ → Bus
-started file = (start_of limits file).bus
+started file = bus_given (start_of limits file)
 
 -- the BAR in a slot as it is reported: its declared size at the address where it is. "A 4 GiB BAR counts as an empty slot."
 abbrev pub slot_report : ℕ → ℕ → SlotReport

@@ -1,27 +1,21 @@
 -- The Run case and the two refusals that document 01 shows, as one statement over a list (proofs/Examples.antt proves it).
 use Rattle.std.specs.Prelude.{ℕ, List, [], ◌∷◌, ◌++◌, ◌≡◌, replicate}
-use Rattle.placement.specs.Keys.{key_count}
-use Rattle.placement.specs.Place.{no_range}
-use Rattle.declaration.specs.declared.answer.Place.{Place}
+use Rattle.refusal.specs.declared.refusal.Refusal.TheVariants.{BadForm, OverlapsPlaced}
+use Rattle.declaration.specs.Answer.{refused_at}
 use Rattle.declaration.specs.declared.answer.Place.TheVariants.{Offset, Index}
-use Rattle.declaration.specs.declared.answer.DeclarationAnswer.TheVariants.{Accepted, Refused}
 use Rattle.bus.specs.Run.{run_ranges, run_file}
-use Rattle.text.specs.Text.{shown_text, text_of}
+use Rattle.text.specs.Line.{refused_line}
+use Rattle.text.specs.Text.{accepted_text, text_of}
 use Rattle.text.specs.declared.shown.Shown.{Shown}
 
 -- devices 3 and 5, with their BARs where placement puts them
 abbrev pub run : Shown
 run =
     record {
-      answer = Accepted;
       aperture = record { start = 0x80000000; end = 0x80010000 };
       devices = 3 ∷ 5 ∷ replicate 6 0;
       ranges = run_ranges;
     }
-
-abbrev pub refused_at : ℕ → Place → Shown
-refused_at number p =
-    record { answer = Refused number p; aperture = record { start = 0; end = 0 }; devices = replicate 8 0; ranges = replicate key_count no_range }
 
 -- the bytes of what document 01 prints
 -- "aperture 080000000 080010000"
@@ -56,7 +50,7 @@ abbrev pub RunPrints : Type 0
 RunPrints = text_of run_file ≡ run_text
 
 unfoldable pub asked : List (List ℕ)
-asked = shown_text run ∷ shown_text (refused_at 16 (Index 3 1)) ∷ shown_text (refused_at 2 (Offset 19)) ∷ []
+asked = accepted_text run ∷ refused_line (refused_at OverlapsPlaced (Index 3 1)) ∷ refused_line (refused_at BadForm (Offset 19)) ∷ []
 
 unfoldable pub told : List (List ℕ)
 told = run_text ∷ refused_bar ∷ refused_field ∷ []

@@ -1,6 +1,8 @@
 -- The lines of the text (document 01, the Run case).
 use Rattle.std.specs.Prelude.{ℕ, ◌+◌, List, [], ◌∷◌, ◌++◌}
+use Rattle.refusal.specs.Refusal.{number_of}
 use Rattle.bar.specs.declared.range.Aperture.{Aperture}
+use Rattle.declaration.specs.declared.answer.DeclarationRefusal.{DeclarationRefusal}
 use Rattle.declaration.specs.declared.answer.Place.{Place}
 use Rattle.declaration.specs.declared.answer.Place.TheVariants.{Offset, Index}
 use Rattle.text.specs.Numeral.{hex_of, decimal_room, decimal_of}
@@ -59,8 +61,8 @@ place_text (Offset at) = decimal_of at
 place_text (Index device index) = device_text device ++ decimal_of index
 
 -- "refused 16 03.1", "refused 2 19"
-unfoldable pub refused_line : ℕ → Place → List ℕ
-refused_line number place = refused_word ++ decimal_of number ++ blank ++ place_text place ++ ended
+unfoldable pub refused_line : DeclarationRefusal → List ℕ
+refused_line e = refused_word ++ decimal_of (number_of e.refusal) ++ blank ++ place_text e.place ++ ended
 
 -- "refused long"
 abbrev pub refused_long : List ℕ

@@ -1,16 +1,15 @@
 -- The whole text, for what is shown of a bus and for a file (document 01, the Run case).
-use Rattle.std.specs.Prelude.{ℕ, ◌+◌, ◌*◌, ◌/◌, ◌%◌, cond, List, [], ◌++◌, ◌≡◌, eqb, ltb, length, get_or, take}
+use Rattle.std.specs.Prelude.{ℕ, ◌+◌, ◌*◌, ◌/◌, ◌%◌, cond, List, [], ◌++◌, ◌≡◌, eqb, ltb, length, get_or, take, Result, Ok, Err}
 use Rattle.io.specs.Counts.{IsPrefixLen}
 use Rattle.address.specs.Layout.{bar_count}
 use Rattle.address.specs.Limits.{limits}
 use Rattle.bar.specs.declared.range.Range.{Range}
 use Rattle.placement.specs.Place.{no_range}
 use Rattle.placement.specs.Keys.{key_count}
-use Rattle.declaration.specs.declared.answer.DeclarationAnswer.{DeclarationAnswer}
-use Rattle.declaration.specs.declared.answer.DeclarationAnswer.TheVariants.{Accepted, Refused}
+use Rattle.declaration.specs.declared.answer.DeclarationRefusal.{DeclarationRefusal}
 use Rattle.bus.specs.Bus.{ranges_on}
 use Rattle.bus.specs.Start.{start_of}
-use Rattle.bus.specs.declared.power_up.Started.{Started}
+use Rattle.bus.specs.declared.state.Bus.{Bus}
 use Rattle.text.specs.Part.{parts_below}
 use Rattle.text.specs.Line.{aperture_length, bar_length, aperture_line, bar_line, refused_line, refused_long}
 use Rattle.text.specs.declared.shown.Shown.{Shown}
@@ -34,16 +33,13 @@ text_room = aperture_length + key_count * bar_length
 unfoldable pub accepted_text : Shown → List ℕ
 accepted_text s = aperture_line s.aperture ++ lines_below s key_count
 
-abbrev pub answer_text : Shown → DeclarationAnswer → List ℕ
-answer_text s Accepted = accepted_text s
-answer_text s (Refused number place) = refused_line number place
+-- what is shown of a bus: the committed ranges by key
+unfoldable pub shown_of : Bus → Shown
+shown_of b = record { aperture = b.aperture; devices = b.devices; ranges = ranges_on b }
 
-unfoldable pub shown_text : Shown → List ℕ
-shown_text s = answer_text s s.answer
-
--- what is shown of a bus that was started: the committed ranges by key
-unfoldable pub shown_of : Started → Shown
-shown_of s = record { answer = s.answer; aperture = s.bus.aperture; devices = s.bus.devices; ranges = ranges_on s.bus }
+abbrev pub answer_text : Result Bus DeclarationRefusal → List ℕ
+answer_text (Ok b) = accepted_text (shown_of b)
+answer_text (Err e) = refused_line e
 
 -- "The program takes up to 65,536 bytes"
 abbrev pub file_most : ℕ
@@ -51,7 +47,7 @@ file_most = 65536
 
 -- what the program prints for a file; "longer input prints `refused long`"
 unfoldable pub text_of : List ℕ → List ℕ
-text_of file = cond (ltb file_most (length file)) refused_long (shown_text (shown_of (start_of limits file)))
+text_of file = cond (ltb file_most (length file)) refused_long (answer_text (start_of limits file))
 
 -- the first n bytes of a buffer are the text; `Counts` says that there are as many
 abbrev pub Holds : List ℕ → ℕ → List ℕ → Type 0

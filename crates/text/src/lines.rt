@@ -4,7 +4,7 @@ ghost use Rattle.text.specs.Line.{column, aperture_line, device_text, bar_line, 
 
 use crate::numeral::{put_bytes, put_decimal, put_hex};
 use bar::Aperture;
-use declaration::Place;
+use declaration::{DeclarationRefusal, Place};
 
 // A blank and hex digits.
 pub(crate) fn put_column(text: &mut [u8], at: usize, count: usize, value: u64) -> usize
@@ -70,13 +70,13 @@ fn put_place(text: &mut [u8], at: usize, place: Place) -> usize
     }
 }
 
-pub(crate) fn put_refused(text: &mut [u8], number: u8, place: Place) -> usize
+pub(crate) fn put_refused(text: &mut [u8], refused: DeclarationRefusal) -> usize
     requires { refused_room ≤ length text.old }
-    ensures { (result ≤ refused_room) × (take result text.new ≡ refused_line number place) }
+    ensures { (result ≤ refused_room) × (take result text.new ≡ refused_line refused) }
 {
     let word = put_bytes(text, 0, b"refused ");
-    let number = put_decimal(text, word, u64::from(number));
+    let number = put_decimal(text, word, u64::from(refused.refusal.number()));
     let blank = put_bytes(text, number, b" ");
-    let place = put_place(text, blank, place);
+    let place = put_place(text, blank, refused.place);
     put_bytes(text, place, b"\n")
 }

@@ -2,13 +2,12 @@
 ghost use Rattle.std.specs.Prelude.{◌≡◌, ◌++◌, ◌+◌, ◌*◌, ◌≤◌, ◌<◌, length, take};
 ghost use Rattle.placement.specs.Keys.{key_count};
 ghost use Rattle.text.specs.Line.{bar_length};
-ghost use Rattle.text.specs.Text.{line_at, lines_below, text_room, accepted_text, shown_text, text_of, Holds};
+ghost use Rattle.text.specs.Text.{line_at, lines_below, text_room, accepted_text, text_of, Holds};
 
 use crate::lines::{put_aperture, put_bar, put_refused};
 use crate::numeral::put_bytes;
 use crate::shown::{Shown, shown_of};
 use address::limits::BAR_SLOTS;
-use declaration::DeclarationAnswer;
 use placement::KEY_COUNT;
 
 // The longest text: an aperture's line of 29 bytes and 48 lines of 24.
@@ -49,17 +48,6 @@ fn put_accepted(text: &mut [u8], shown: Shown) -> usize
     put_lines(text, first, shown)
 }
 
-fn put_shown(text: &mut [u8], shown: Shown) -> usize
-    requires { text_room ≤ length text.old }
-    ensures { (result ≤ text_room) × (take result text.new ≡ shown_text shown) }
-{
-    let answer = shown.answer;
-    match answer {
-        DeclarationAnswer::Accepted => put_accepted(text, shown),
-        DeclarationAnswer::Refused { number, place } => put_refused(text, number, place),
-    }
-}
-
 // The text for a file goes to the front of the buffer; its length.
 pub fn file_text(text: &mut [u8; TEXT_ROOM], file: &[u8]) -> usize
     ensures { Holds text.new result (text_of file.now) }
@@ -67,5 +55,8 @@ pub fn file_text(text: &mut [u8; TEXT_ROOM], file: &[u8]) -> usize
     if FILE_MOST < file.len() {
         return put_bytes(text, 0, b"refused long\n");
     }
-    put_shown(text, shown_of(bus::start(file)))
+    match bus::start(file) {
+        Ok(bus) => put_accepted(text, shown_of(bus)),
+        Err(refused) => put_refused(text, refused),
+    }
 }

@@ -1,19 +1,20 @@
 -- Each answer as a plain struct: what it is, document 01's number, and its values; what it does not tell is 0.
-use Rattle.std.specs.Prelude.{ℕ, true, false}
+use Rattle.std.specs.Prelude.{ℕ, true, false, Result, Ok, Err}
 use Rattle.refusal.specs.Number.{accepted}
+use Rattle.refusal.specs.Refusal.{number_of}
 use Rattle.capability.specs.Blank.{no_placed_effect}
 use Rattle.capability.specs.declared.effect_access.EffectHit.{EffectHit}
 use Rattle.capability.specs.declared.snapshot.Snapshot.{Snapshot}
 use Rattle.config.specs.Read.{read_number}
 use Rattle.config.specs.declared.read_step.ReadAnswer.{ReadAnswer}
 use Rattle.config.specs.declared.read_step.ReadAnswer.TheVariants as read
-use Rattle.declaration.specs.declared.answer.DeclarationAnswer.{DeclarationAnswer}
-use Rattle.declaration.specs.declared.answer.DeclarationAnswer.TheVariants as answer
+use Rattle.declaration.specs.declared.answer.DeclarationRefusal.{DeclarationRefusal}
 use Rattle.declaration.specs.declared.answer.Place.{Place}
 use Rattle.declaration.specs.declared.answer.Place.TheVariants as place
 use Rattle.bus.specs.Access.{bus_write_number}
 use Rattle.bus.specs.Lookup.{lookup_number}
 use Rattle.bus.specs.Reset.{bus_reset_number}
+use Rattle.bus.specs.declared.state.Bus.{Bus}
 use Rattle.bus.specs.declared.write_access.BusWriteAnswer.{BusWriteAnswer}
 use Rattle.bus.specs.declared.write_access.BusWriteAnswer.TheVariants as write
 use Rattle.bus.specs.declared.memory_lookup.LookupAnswer.{LookupAnswer}
@@ -116,6 +117,6 @@ abbrev pub place_result : ℕ → Place → StartResult
 place_result number (place.Offset offset) = record { refusal = number; in_file = true; device = 0; offset = offset; index = 0 }
 place_result number (place.Index device index) = record { refusal = number; in_file = false; device = device; offset = 0; index = index }
 
-abbrev pub start_result : DeclarationAnswer → StartResult
-start_result answer.Accepted = record { refusal = accepted; in_file = false; device = 0; offset = 0; index = 0 }
-start_result (answer.Refused number p) = place_result number p
+abbrev pub start_result : Result Bus DeclarationRefusal → StartResult
+start_result (Ok b) = record { refusal = accepted; in_file = false; device = 0; offset = 0; index = 0 }
+start_result (Err e) = place_result (number_of e.refusal) e.place

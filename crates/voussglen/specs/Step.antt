@@ -5,7 +5,7 @@ use Rattle.capability.specs.declared.snapshot.Snapshot.{Snapshot}
 use Rattle.bus.specs.Access.{bus_read_of, bus_write_of}
 use Rattle.bus.specs.Lookup.{lookup_of}
 use Rattle.bus.specs.Reset.{bus_reset_of}
-use Rattle.bus.specs.Start.{start_of}
+use Rattle.bus.specs.Start.{bus_given, start_of}
 use Rattle.bus.specs.declared.state.Bus.{Bus}
 use Rattle.voussglen.specs.Result.{read_result, read_body, write_result, write_body, lookup_result, reset_result, start_result}
 use Rattle.voussglen.specs.declared.results.ReadAsk.{ReadAsk}
@@ -39,4 +39,4 @@ abbrev pub reset_step : Bus → ResetStep
 reset_step b = record { result = reset_result (bus_reset_of b).answer; bus = (bus_reset_of b).bus }
 
 abbrev pub start_step : List ℕ → StartStep
-start_step file = record { result = start_result (start_of limits file).answer; bus = (start_of limits file).bus }
+start_step file = record { result = start_result (start_of limits file); bus = bus_given (start_of limits file) }

@@ -1,11 +1,11 @@
 // Start from the bytes of a declaration file.
 ghost use Rattle.std.specs.Prelude.{◌≡◌};
-ghost use Rattle.voussglen.specs.Result.{start_result, place_result};
+ghost use Rattle.voussglen.specs.Result.{place_result};
 ghost use Rattle.voussglen.specs.Step.{start_step};
 
 use crate::results::StartResult;
 use bus::Bus;
-use declaration::{DeclarationAnswer, Place};
+use declaration::Place;
 
 fn at_place(refusal: u8, place: Place) -> StartResult
     ensures { result ≡ place_result refusal place }
@@ -28,21 +28,6 @@ fn at_place(refusal: u8, place: Place) -> StartResult
     }
 }
 
-fn result_of(answer: DeclarationAnswer) -> StartResult
-    ensures { result ≡ start_result answer }
-{
-    match answer {
-        DeclarationAnswer::Accepted => StartResult {
-            refusal: refusal::ACCEPTED,
-            in_file: false,
-            device: 0,
-            offset: 0,
-            index: 0,
-        },
-        DeclarationAnswer::Refused { number, place } => at_place(number, place),
-    }
-}
-
 #[derive(Clone, Copy)]
 pub struct StartStep {
     pub result: StartResult,
@@ -53,12 +38,24 @@ pub struct StartStep {
 fn step(file: &[u8]) -> StartStep
     ensures { result ≡ start_step file.now }
 {
-    let started = bus::start(file);
-    let answer = started.answer;
-    let bus = started.bus;
-    StartStep {
-        result: result_of(answer),
-        bus,
+    match bus::start(file) {
+        Ok(bus) => StartStep {
+            result: StartResult {
+                refusal: refusal::ACCEPTED,
+                in_file: false,
+                device: 0,
+                offset: 0,
+                index: 0,
+            },
+            bus,
+        },
+        Err(refused) => {
+            let bus = Bus::none();
+            StartStep {
+                result: at_place(refused.refusal.number(), refused.place),
+                bus,
+            }
+        }
     }
 }
 

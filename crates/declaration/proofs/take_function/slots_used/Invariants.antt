@@ -1,14 +1,9 @@
 -- `slots_used`: each of the first i slots has a BAR.
-use Prim.Native.Nat.{◌-◌, ◌≤◌}
 use mathlib.Core.Bool.{true}
 use mathlib.Core.Path.{◌≡◌}
 use Rattle.word.specs.Search.{all_below}
-use Rattle.address.specs.Layout.{bar_count}
 use Rattle.declaration.specs.Standing.{slot_used}
 use Rattle.declaration.proofs.take_function.slots_used.Given as goal
 
 abbrev pub invariant-loop-i : goal.invariant-loop-i
-invariant-loop-i l = (l.i ≤ bar_count) × (all_below (slot_used l.function) l.i ≡ true)
-
-abbrev pub decreases-loop-i : goal.decreases-loop-i
-decreases-loop-i l = bar_count - l.i
+invariant-loop-i l = all_below (slot_used l.function) l.i ≡ true

@@ -11,4 +11,4 @@ returns c =
     let blank = c.put_bytes-blank.ensures in
     let number = c.put_decimal-number.ensures in
     let word = c.put_bytes-word.ensures in
-    (search rules, rw (line.1, place.1, blank.1, number.1, word.1, c.from.ensures))
+    (search rules, rw (line.1, place.1, blank.1, number.1, word.1, c.from.ensures, c.number.ensures))

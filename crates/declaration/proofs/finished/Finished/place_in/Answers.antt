@@ -1,5 +1,5 @@
 use Prim.Native.Nat.{◌≤◌, ◌<◌}
-use mathlib.Core.Path.{◌≡◌, sym, subst, ◌∙◌}
+use mathlib.Core.Path.{◌≡◌, sym, subst}
 use native.Mathlib.Omega.{arith}
 use borrow.Author.Count.{below_more}
 use borrow.Author.Rules.{rules}
@@ -17,36 +17,21 @@ use Rattle.declaration.proofs.finished.Finished.place_in.Goals.{Start}
 long : (c : Start) → length c.args.self.functions ≡ function_room
 long c = search (rules, long_unmapped)
 
-pub loop-k-init : goal.loop-k-init
-loop-k-init c = (omega arith, λ j h. absurd (omega arith))
-
-pub offset_bounds-self-k : goal.offset_bounds-self-k
-offset_bounds-self-k c = omega (arith, long (goal.at.offset_bounds-self-k c).Start)
-
-pub bounds-self-k : goal.bounds-self-k
-bounds-self-k c = omega (arith, long (goal.at.bounds-self-k c).Start)
-
 pub returns-then-device-function : goal.returns-then-device-function
 returns-then-device-function c =
     let a = c.args in
     let l = c.loop-k in
     let h : l.k < length a.self.functions = omega (arith, long (goal.at.returns-then-device-function c).Start) in
-    sym (least_at _ _ _ c.loop-k-test.true (lt-ltb _ _ (subst (λ (x : Function). a.device < x.device) (get_or_inside a.self.functions l.k _ no_function h) c.if-device-function.true)) l.invariant.1)
-
-pub overflow_add-k : goal.overflow_add-k
-overflow_add-k c = omega arith
-
-pub loop-k-smaller : goal.loop-k-smaller
-loop-k-smaller c = omega arith
+    sym (least_at _ _ _ c.loop-k-test.true (lt-ltb _ _ (subst (λ (x : Function). a.device < x.device) (get_or_inside a.self.functions l.k _ no_function h) c.if-device-function.true)) l.invariant)
 
 pub loop-k-preserved : goal.loop-k-preserved
 loop-k-preserved c =
     let a = c.args in
     let l = c.loop-k in
     let h : l.k < length a.self.functions = omega (arith, long (goal.at.loop-k-preserved c).Start) in
-    (omega arith, below_more _ _ l.invariant.1 (le-ltb _ _ (subst (λ (x : Function). x.device ≤ a.device) (get_or_inside a.self.functions l.k _ no_function h) c.if-device-function.false)))
+    below_more _ _ l.invariant (le-ltb _ _ (subst (λ (x : Function). x.device ≤ a.device) (get_or_inside a.self.functions l.k _ no_function h) c.if-device-function.false))
 
 pub returns : goal.returns
-returns c = let l = c.loop-k in
-    let e : l.k ≡ c.args.self.count = omega (arith, l.invariant.0) in
-    e ∙ sym (least_none _ _ (rw e at l.invariant.1))
+returns c =
+    let e : c.loop-k.k ≡ c.args.self.count = omega arith in
+    sym (least_none _ _ (rw e at c.loop-k.invariant))

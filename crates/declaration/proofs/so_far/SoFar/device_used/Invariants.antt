@@ -1,5 +1,4 @@
 -- `device_used`: none of the first i devices is it.
-use Prim.Native.Nat.{◌-◌, ◌≤◌}
 use mathlib.Core.Bool.{false}
 use mathlib.Core.Path.{◌≡◌}
 use Rattle.word.specs.Search.{any_below}
@@ -7,7 +6,4 @@ use Rattle.declaration.proofs.Used.{is_device}
 use Rattle.declaration.proofs.so_far.SoFar.device_used.Given as goal
 
 abbrev pub invariant-loop-i : goal.invariant-loop-i
-invariant-loop-i l = (l.i ≤ l.self.count) × (any_below (is_device l.self l.device) l.i ≡ false)
-
-abbrev pub decreases-loop-i : goal.decreases-loop-i
-decreases-loop-i l = l.self.count - l.i
+invariant-loop-i l = any_below (is_device l.self l.device) l.i ≡ false

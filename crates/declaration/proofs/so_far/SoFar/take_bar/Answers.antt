@@ -1,18 +1,18 @@
 -- `take_bar`: the checks of a BAR in their order; a good slot is its own place in the array.
 use Prim.Native.Nat.{◌<◌}
 use mathlib.Core.Path.{◌≡◌, sym, ap, ◌∙◌}
+use borrow.Author.Rules.{rules}
+use Rattle.std.specs.Prelude.{Ok}
 use mathlib.Core.List.{[]}
 use mathlib.Core.Bool.{false}
 use Rattle.word.specs.Search.{all_below}
 use Rattle.address.specs.Layout.{bar_count}
-use Rattle.address.specs.Kinds.{slot, index_of}
+use Rattle.address.specs.Kinds.{slot, slot_of, index_of}
 use Rattle.address.proofs.Slots.{slot_is, index_is}
 use Rattle.address.specs.Limits.{limits}
 use Rattle.bar.proofs.Sizes.{size_ok_lem, bar_is}
 use Rattle.declaration.specs.Standing.{slot_used}
 use Rattle.declaration.proofs.Takings.{bar_early, bar_above, bar_no_slot, bar_used, bar_bad_size, bar_taken}
-use Rattle.address.proofs.Slots.{slot_refused}
-use Rattle.bar.proofs.Sizes.{bar_refused}
 use Rattle.declaration.proofs.so_far.SoFar.take_bar.Goals as goal
 use Rattle.declaration.proofs.so_far.SoFar.take_bar.Goals.{After-index-i, Else-full, Else-used}
 
@@ -20,11 +20,14 @@ use Rattle.declaration.proofs.so_far.SoFar.take_bar.Goals.{After-index-i, Else-f
 free : (c : Else-full) → all_below (slot_used c.args.self.function) bar_count ≡ false
 free c = sym c.slots_used-full.ensures ∙ c.if-full.false
 
-is_slot : (c : After-index-i) → c.in-Ok.at ≡ slot c.args.slot
-is_slot c = (slot_is _ _ (sym c.new.ensures ∙ c.in-Ok.is)).0
+made : (c : After-index-i) → slot_of c.args.slot ≡ Ok c.in_ok-at.at
+made c = sym c.new.ensures ∙ c.in_ok-at.was
+
+is_slot : (c : After-index-i) → c.in_ok-at.at ≡ slot c.args.slot
+is_slot c = (slot_is _ _ (made c)).0
 
 low : (c : After-index-i) → c.args.slot < bar_count
-low c = (slot_is _ _ (sym c.new.ensures ∙ c.in-Ok.is)).1
+low c = (slot_is _ _ (made c)).1
 
 place : (c : After-index-i) → c.index-i.result ≡ c.args.slot
 place c = c.index-i.ensures ∙ ap index_of (is_slot c) ∙ index_is _ (low c)
@@ -33,30 +36,30 @@ unused : (c : Else-used) → let a = c.args in slot_used a.self.function a.slot 
 unused c = rw (← place c.before.before) (sym c.slot_used-used.ensures ∙ c.if-used.false)
 
 pub returns-then-self-eq0 : goal.returns-then-self-eq0
-returns-then-self-eq0 c = let a = c.args in c.refused.ensures ∙ sym (bar_early limits a.self a.slot a.size a.request [] c.if-self-eq0.true)
+returns-then-self-eq0 c = let a = c.args in sym (bar_early limits a.self a.slot a.size a.request [] c.if-self-eq0.true)
 
 pub returns-then-full : goal.returns-then-full
 returns-then-full c =
     let a = c.args in
-    c.refused-then-full.ensures ∙ sym (bar_above limits a.self a.slot a.size a.request [] c.if-self-eq0.false (sym c.slots_used-full.ensures ∙ c.if-full.true))
+    sym (bar_above limits a.self a.slot a.size a.request [] c.if-self-eq0.false (sym c.slots_used-full.ensures ∙ c.if-full.true))
 
-pub returns-in_default : goal.returns-in_default
-returns-in_default c =
+pub returns-in_err-at : goal.returns-in_err-at
+returns-in_err-at c =
     let a = c.args in
-    c.refused-in_default.ensures ∙ sym (bar_no_slot limits a.self a.slot a.size a.request [] c.if-self-eq0.false (free (goal.at.returns-in_default c).Else-full) (slot_refused a.slot _ (sym c.new.ensures ∙ c.in_default.is)).1)
+    rw (bar_no_slot limits a.self a.slot a.size a.request [] c.if-self-eq0.false (free (goal.at.returns-in_err-at c).Else-full) _ (sym c.new.ensures ∙ c.in_err-at.was)) (search rules)
 
 pub returns-then-used : goal.returns-then-used
 returns-then-used c =
     let a = c.args in
-    c.refused-then-used.ensures ∙ sym (bar_used limits a.self a.slot a.size a.request [] c.if-self-eq0.false (free (goal.at.returns-then-used c).Else-full) (low (goal.at.returns-then-used c).After-index-i) (rw (← place (goal.at.returns-then-used c).After-index-i) (sym c.slot_used-used.ensures ∙ c.if-used.true)))
+    sym (bar_used limits a.self a.slot a.size a.request [] c.if-self-eq0.false (free (goal.at.returns-then-used c).Else-full) (low (goal.at.returns-then-used c).After-index-i) (rw (← place (goal.at.returns-then-used c).After-index-i) (sym c.slot_used-used.ensures ∙ c.if-used.true)))
 
-pub returns-in_default-new : goal.returns-in_default-new
-returns-in_default-new c =
+pub returns-in_err-bar : goal.returns-in_err-bar
+returns-in_err-bar c =
     let a = c.args in
-    c.refused-in_default-new.ensures ∙ sym (bar_bad_size limits a.self a.slot a.size a.request [] c.if-self-eq0.false (free (goal.at.returns-in_default-new c).Else-full) (low (goal.at.returns-in_default-new c).After-index-i) (unused (goal.at.returns-in_default-new c).Else-used) (bar_refused _ a.size a.request _ (sym c.new-2.ensures ∙ c.in_default-new.is)).1)
+    rw (bar_bad_size limits a.self a.slot a.size a.request [] c.if-self-eq0.false (free (goal.at.returns-in_err-bar c).Else-full) (low (goal.at.returns-in_err-bar c).After-index-i) (unused (goal.at.returns-in_err-bar c).Else-used) _ _ (sym c.new-2.ensures ∙ c.in_err-bar.was)) (search rules)
 
 pub returns : goal.returns
 returns c =
     let a = c.args in
-    let r = bar_is _ a.size a.request _ (sym c.new-2.ensures ∙ c.in-Ok-new.is) in
-    rw (c.accepted.ensures, c.with_function.ensures, place (goal.at.returns c).After-index-i, r.0, is_slot (goal.at.returns c).After-index-i) (sym (bar_taken limits a.self a.slot a.size a.request [] c.if-self-eq0.false (free (goal.at.returns c).Else-full) (low (goal.at.returns c).After-index-i) (unused (goal.at.returns c).Else-used) (size_ok_lem a.size r.1)))
+    let r = bar_is _ a.size a.request _ (sym c.new-2.ensures ∙ c.in_ok-bar.was) in
+    rw (c.with_function.ensures, place (goal.at.returns c).After-index-i, r.0, is_slot (goal.at.returns c).After-index-i) (sym (bar_taken limits a.self a.slot a.size a.request [] c.if-self-eq0.false (free (goal.at.returns c).Else-full) (low (goal.at.returns c).After-index-i) (unused (goal.at.returns c).Else-used) (size_ok_lem a.size r.1)))

@@ -6,14 +6,14 @@ use Rattle.declaration.proofs.Takings.{intx_early, intx_repeated, intx_taken}
 use Rattle.declaration.proofs.so_far.SoFar.take_intx.Goals as goal
 
 pub returns-then-self-eq0 : goal.returns-then-self-eq0
-returns-then-self-eq0 c = let a = c.args in c.refused.ensures ∙ sym (intx_early limits a.self a.pin a.line [] c.if-self-eq0.true)
+returns-then-self-eq0 c = let a = c.args in sym (intx_early limits a.self a.pin a.line [] c.if-self-eq0.true)
 
 pub returns-then-is_some : goal.returns-then-is_some
 returns-then-is_some c =
     let a = c.args in
-    c.refused-then-is_some.ensures ∙ sym (intx_repeated limits a.self a.pin a.line [] c.if-self-eq0.false (sym c.is_some.ensures ∙ c.if-is_some.true))
+    sym (intx_repeated limits a.self a.pin a.line [] c.if-self-eq0.false (sym c.is_some.ensures ∙ c.if-is_some.true))
 
 pub returns : goal.returns
 returns c =
     let a = c.args in
-    rw (c.accepted.ensures, c.with_function.ensures) (sym (intx_taken limits a.self a.pin a.line [] c.if-self-eq0.false (sym c.is_some.ensures ∙ c.if-is_some.false)))
+    rw (c.with_function.ensures) (sym (intx_taken limits a.self a.pin a.line [] c.if-self-eq0.false (sym c.is_some.ensures ∙ c.if-is_some.false)))
