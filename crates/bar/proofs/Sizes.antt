@@ -30,22 +30,6 @@ pub power_of : (n k : ℕ) → n ≡ 2 ^ k → k < 64 → power_of_two n ≡ tru
 unfolding power_of_two
 power_of n k e h = any_found (λ k. eqb n (2 ^ k)) k 64 h (eq-eqb n (2 ^ k) e)
 
--- the first power that is not below n tells whether n is one
-pub power_test : (n p k : ℕ) → p ≡ 2 ^ k → p < 2 ^ 64 → n ≤ p → ((j : ℕ) → n ≡ 2 ^ j → k ≤ j) → eqb p n ≡ power_of_two n
-power_test n p k e f h low =
-    same_test (eqb p n) (power_of_two n) (λ t. power_of n k (sym (eqb-true p n t) ∙ e) (exponent_lt k p e f))
-    (λ t. let r = power_has n t in eq-eqb p n (omega (arith, pow_mono {i = k} {j = r.0} (low r.0 r.1), r.1)))
-
--- a power of at least the least size has an exponent of at least 4
-pub least_exponent : (n j : ℕ) → least_size ≤ n → n ≡ 2 ^ j → 4 ≤ j
-least_exponent n j h e =
-    ⊎_elim (λ (l : j < 4). absurd (omega (arith, pow_mono {i = j} {j = 3} (omega arith)))) (λ (l : 4 ≤ j). l) (below_or_not j 4)
-
--- doubling a power that is too low passes none
-pub power_next : (n p k : ℕ) → p ≡ 2 ^ k → p < n → ((j : ℕ) → n ≡ 2 ^ j → k ≤ j) → (j : ℕ) → n ≡ 2 ^ j → k + 1 ≤ j
-power_next n p k e h low j f =
-    ⊎_elim (λ (l : j < k + 1). absurd (omega (arith, pow_mono {i = j} {j = k} (omega arith)))) (λ (l : k + 1 ≤ j). l) (below_or_not j (k + 1))
-
 pub size_ok_lem : (size : ℕ) → Sized size → size_ok size ≡ true
 unfolding size_ok
 size_ok_lem size s =

@@ -33,11 +33,7 @@ pub fn size_ok(size: u64) -> bool
     if MOST_SIZE < size {
         return false;
     }
-    let mut power: u64 = LEAST_SIZE;
-    while power < size {
-        power = power * 2;
-    }
-    power == size
+    size.is_power_of_two()
 }
 
 impl MemoryBar {
