@@ -1,14 +1,14 @@
 -- The size rule: from the least to the largest, a power of two.
 use Rattle.std.specs.Prelude.{Ok, Err}
-use Prim.Native.Nat.{ℕ, ◌+◌, ◌^◌, ◌<◌, ◌≤◌}
+use Prim.Native.Nat.{ℕ, ◌^◌, ◌<◌, ◌≤◌}
 use mathlib.Core.Bool.{true, false, ◌&&◌, and-false}
 use mathlib.Core.Logic.{⊎_elim}
-use mathlib.Core.Path.{◌≡◌, sym, ◌∙◌}
+use mathlib.Core.Path.{◌≡◌}
 use borrow.Author.Tests.{le-leb, lt-leb, eq-eqb, leb-true, eqb-true}
 use native.Mathlib.Omega.{arith}
 use lib.Dec.{leb, eqb}
 use lib.Pow.{pow_mono}
-use Rattle.word.proofs.Tests.{and_left, and_right, below_or_not, same_test}
+use Rattle.word.proofs.Tests.{and_left, and_right, below_or_not}
 use Rattle.word.proofs.Searches.{any_found, any_has_lem}
 use Rattle.address.specs.declared.slot.Slot.{Slot}
 use Rattle.bar.specs.Bar.{power_of_two, least_size, most_size, size_ok, Sized, memory_bar, bar_of}
@@ -29,6 +29,11 @@ power_has n e = let r = any_has_lem (λ k. eqb n (2 ^ k)) 64 e in (r.0, eqb-true
 pub power_of : (n k : ℕ) → n ≡ 2 ^ k → k < 64 → power_of_two n ≡ true
 unfolding power_of_two
 power_of n k e h = any_found (λ k. eqb n (2 ^ k)) k 64 h (eq-eqb n (2 ^ k) e)
+
+-- a power of at least the least size has an exponent of at least 4
+pub least_exponent : (n j : ℕ) → least_size ≤ n → n ≡ 2 ^ j → 4 ≤ j
+least_exponent n j h e =
+    ⊎_elim (λ (l : j < 4). absurd (omega (arith, pow_mono {i = j} {j = 3} (omega arith)))) (λ (l : 4 ≤ j). l) (below_or_not j 4)
 
 pub size_ok_lem : (size : ℕ) → Sized size → size_ok size ≡ true
 unfolding size_ok
