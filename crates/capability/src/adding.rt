@@ -1,7 +1,7 @@
 // Adding an effect to the latest capability: refusals 3, 4 and 11.
-ghost use Rattle.std.specs.Prelude.{◌≡◌, ◌≤◌};
-ghost use Rattle.address.specs.Limits.{limits, effect_room};
-ghost use Rattle.capability.specs.Declaration.{latest};
+ghost use Rattle.std.specs.Prelude.{◌≡◌};
+ghost use Rattle.address.specs.Limits.{limits};
+ghost use Rattle.capability.specs.Declaration.{effect_count_of, latest};
 ghost use Rattle.capability.specs.BadEffect.{mask_at, clashes, overlaps_earlier, covers_writable, effect_bad};
 ghost use Rattle.capability.specs.Addition.{add_effect_of};
 
@@ -11,31 +11,27 @@ use crate::placed::CAPABILITY_HEADER_SIZE;
 use address::limits::EFFECT_LIMIT;
 use refusal::Refusal;
 
-// Whether a region of a capability overlaps that of an earlier effect there.
-fn overlaps_one(earlier: Effect, capability: u8, offset: u8, length: u8) -> bool
-    ensures { result ≡ clashes earlier capability offset length }
+// Whether an effect's region overlaps that of an earlier effect of its capability.
+fn overlaps_one(earlier: Effect, effect: Effect) -> bool
+    ensures { result ≡ clashes earlier effect.capability effect.offset effect.length }
 {
-    earlier.capability == capability
+    earlier.capability == effect.capability
         && word::overlap(
-            offset as u64,
-            length as u64,
+            effect.offset as u64,
+            effect.length as u64,
             earlier.offset as u64,
             earlier.length as u64,
         )
 }
 
-// Whether it overlaps one of the first `count`.
-fn overlaps_earlier(
-    effects: [Effect; EFFECT_LIMIT],
-    count: usize,
-    capability: u8,
-    offset: u8,
-    length: u8,
-) -> bool
-    requires { count ≤ effect_room }
-    ensures { result ≡ overlaps_earlier effects count capability offset length }
+// Whether it overlaps one that is declared.
+fn overlaps_earlier(declared: Capabilities, effect: Effect) -> bool
+    ensures { result ≡ overlaps_earlier declared.effects (effect_count_of declared) effect.capability effect.offset effect.length }
 {
-    effects[..count].iter().any(|earlier| overlaps_one(*earlier, capability, offset, length))
+    let count = declared.declared_effects();
+    declared.effects[..count]
+        .iter()
+        .any(|earlier| overlaps_one(*earlier, effect))
 }
 
 // The write mask of byte `at` of a capability.
@@ -48,12 +44,12 @@ fn mask_at(mask: &[u8], at: usize) -> u8
     word::byte_at(mask, at - CAPABILITY_HEADER_SIZE)
 }
 
-// Whether a region has a byte that the guest may write.
-fn covers_writable(mask: &[u8], offset: u8, length: u8) -> bool
-    ensures { result ≡ covers_writable mask.now offset length }
+// Whether its region has a byte that the guest may write.
+fn covers_writable(mask: &[u8], effect: Effect) -> bool
+    ensures { result ≡ covers_writable mask.now effect.offset effect.length }
 {
-    let start = offset as usize;
-    (0..length as usize).any(|i| mask_at(mask, start + i) != 0)
+    let start = effect.offset as usize;
+    (0..effect.length as usize).any(|i| mask_at(mask, start + i) != 0)
 }
 
 // The index of the latest capability, 0 where there is none.
@@ -63,20 +59,20 @@ fn latest_of(declared: Capabilities) -> u8
     declared.declared_count().saturating_sub(1) as u8
 }
 
-// Whether the latest capability refuses an effect of `length` bytes from `offset` on.
+// Whether the latest capability refuses an effect of its own.
 #[tactic(auto, unfolding(crate::specs::BadEffect::effect_bad))]
-fn effect_bad(mask: &[u8], declared: Capabilities, offset: u8, length: u8) -> bool
-    ensures { result ≡ effect_bad mask.now declared offset length }
+fn effect_bad(mask: &[u8], declared: Capabilities, effect: Effect) -> bool
+    requires { effect.capability ≡ latest declared }
+    ensures { result ≡ effect_bad mask.now declared effect.offset effect.length }
 {
-    let capability = latest_of(declared);
-    let body = declared.length_at(capability as usize);
-    let effects = declared.effects;
-    let count = declared.declared_effects();
+    let start = effect.offset as usize;
+    let length = effect.length as usize;
+    let body = declared.length_at(effect.capability as usize) as usize;
     length == 0
-        || (offset as usize) < CAPABILITY_HEADER_SIZE
-        || CAPABILITY_HEADER_SIZE + (body as usize) < (offset as usize) + (length as usize)
-        || overlaps_earlier(effects, count, capability, offset, length)
-        || covers_writable(mask, offset, length)
+        || start < CAPABILITY_HEADER_SIZE
+        || CAPABILITY_HEADER_SIZE + body < start + length
+        || overlaps_earlier(declared, effect)
+        || covers_writable(mask, effect)
 }
 
 impl Capabilities {
@@ -99,19 +95,18 @@ impl Capabilities {
         if EFFECT_LIMIT <= n {
             return Err(Refusal::AboveLimit);
         }
-        let bad = effect_bad(mask, self, offset, length);
-        if bad {
-            return Err(Refusal::BadEffect);
-        }
-        let capability = latest_of(self);
-        let mut out = self;
-        out.effects[n] = Effect {
+        let effect = Effect {
             id,
-            capability,
+            capability: latest_of(self),
             offset,
             length,
             access,
         };
+        if effect_bad(mask, self, effect) {
+            return Err(Refusal::BadEffect);
+        }
+        let mut out = self;
+        out.effects[n] = effect;
         out.effect_count = n + 1;
         Ok(out)
     }

@@ -16,7 +16,7 @@ pub struct Capability {
     length: u8,
 }
 
-// Those of a function in declaration order, with their effects; what lies past a count is blank.
+// Those of a function in declaration order, with their effects; what lies past a count is blank. There is no heap.
 #[derive(Clone, Copy, Debug, PartialEq, Eq)]
 pub struct Capabilities {
     pub list: [Capability; CAPABILITY_LIMIT],

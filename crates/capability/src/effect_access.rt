@@ -5,7 +5,7 @@ ghost use Rattle.capability.specs.Touch.{allows, decision, touch_of};
 use crate::effect::EffectAccess;
 use crate::owner::{capability_in, effect_at, effect_holds, first_touched, region_start};
 use crate::placed::{Placed, PlacedEffect};
-use address::ConfigOffset;
+use address::{Access, ConfigOffset};
 use refusal::Refusal;
 
 // An access inside an effect: the capability's id, the region, and the access's offset from the capability's start and from the region's own.
@@ -33,15 +33,15 @@ fn access_allows(access: u8, write: bool) -> bool
 #[tactic(auto, unfolding(crate::specs::Touch::decision))]
 fn decided(
     placed: Placed,
-    offset: u16,
-    width: usize,
+    access: Access,
     write: bool,
     i: usize,
 ) -> Result<Option<EffectHit>, Refusal>
-    ensures { result ≡ decision placed offset width write i }
+    ensures { result ≡ decision placed access.offset.0 access.width write i }
 {
+    let offset = access.offset.value();
     let region = effect_at(placed, i);
-    if effect_holds(placed, offset as usize, width, i) && access_allows(region.access, write) {
+    if effect_holds(placed, access, i) && access_allows(region.access, write) {
         let capability = capability_in(placed, region.capability as usize);
         let inside = (offset as usize).saturating_sub(region_start(placed, region));
         return Ok(Some(EffectHit {
@@ -64,9 +64,9 @@ pub fn effect_for_access(
 ) -> Result<Option<EffectHit>, Refusal>
     ensures { result ≡ touch_of placed offset.0 width write }
 {
-    let at = offset.value();
-    match first_touched(placed, at as usize, width) {
-        Some(i) => decided(placed, at, width, write, i),
+    let access = Access { offset, width };
+    match first_touched(placed, access) {
+        Some(i) => decided(placed, access, write, i),
         None => Ok(None),
     }
 }

@@ -3,8 +3,8 @@ ghost use Rattle.std.specs.Prelude.{◌≡◌};
 ghost use Rattle.capability.specs.Owner.{capability_count, effect_count, effect_at, capability_at, start_of, region_start, touches, holds, first_touched, owner_of};
 
 use crate::placed::{Placed, PlacedCapability, PlacedEffect};
-use address::ConfigOffset;
 use address::limits::{CAPABILITY_LIMIT, EFFECT_LIMIT};
+use address::{Access, ConfigOffset};
 
 // How many capabilities there are.
 pub fn capability_count(placed: Placed) -> usize
@@ -38,7 +38,7 @@ pub fn capability_start(placed: Placed, i: usize) -> u16
     capability.offset.value()
 }
 
-// The effect at an index, blank past the last.
+// The effect at an index, blank past the last. One function for both lists needs as many lines at each call.
 pub(crate) fn effect_at(placed: Placed, i: usize) -> PlacedEffect
     ensures { result ≡ effect_at placed i }
 {
@@ -59,19 +59,26 @@ pub(crate) fn region_start(placed: Placed, effect: PlacedEffect) -> usize
 
 // Whether some byte of an access lies in the region of the effect at an index.
 #[tactic(auto, unfolding(crate::specs::Owner::touches))]
-fn effect_touched(placed: Placed, offset: usize, width: usize, i: usize) -> bool
-    ensures { result ≡ touches placed offset width i }
+fn effect_touched(placed: Placed, access: Access, i: usize) -> bool
+    ensures { result ≡ touches placed access.offset.0 access.width i }
 {
     let e = effect_at(placed, i);
     let start = region_start(placed, e);
-    word::overlap(offset as u64, width as u64, start as u64, e.length as u64)
+    word::overlap(
+        access.offset.value() as u64,
+        access.width as u64,
+        start as u64,
+        e.length as u64,
+    )
 }
 
 // Whether every byte of it does.
 #[tactic(auto, using(crate::proofs::Regions::held_none, crate::proofs::Regions::held_before, crate::proofs::Regions::held_test))]
-pub(crate) fn effect_holds(placed: Placed, offset: usize, width: usize, i: usize) -> bool
-    ensures { result ≡ holds placed offset width i }
+pub(crate) fn effect_holds(placed: Placed, access: Access, i: usize) -> bool
+    ensures { result ≡ holds placed access.offset.0 access.width i }
 {
+    let offset = access.offset.value() as usize;
+    let width = access.width;
     if width == 0 {
         return true;
     }
@@ -88,10 +95,10 @@ pub(crate) fn effect_holds(placed: Placed, offset: usize, width: usize, i: usize
 }
 
 // The first effect of which an access touches a byte, by its index.
-pub(crate) fn first_touched(placed: Placed, offset: usize, width: usize) -> Option<usize>
-    ensures { result ≡ first_touched placed offset width }
+pub(crate) fn first_touched(placed: Placed, access: Access) -> Option<usize>
+    ensures { result ≡ first_touched placed access.offset.0 access.width }
 {
-    (0..effect_count(placed)).find(|i| effect_touched(placed, offset, width, *i))
+    (0..effect_count(placed)).find(|i| effect_touched(placed, access, *i))
 }
 
 // The effect that owns a byte, by its index.
@@ -99,5 +106,5 @@ pub(crate) fn first_touched(placed: Placed, offset: usize, width: usize) -> Opti
 pub fn owner_of(placed: Placed, offset: ConfigOffset) -> Option<usize>
     ensures { result ≡ owner_of placed offset.0 }
 {
-    first_touched(placed, offset.value() as usize, 1)
+    first_touched(placed, Access { offset, width: 1 })
 }

@@ -30,7 +30,7 @@ pub struct PlacedEffect {
     pub access: u8,
 }
 
-// Those of a function; what lies past a count is blank.
+// Those of a function; what lies past a count is blank. C reads this layout, and there is no heap.
 #[repr(C)]
 #[derive(Clone, Copy)]
 pub struct Placed {

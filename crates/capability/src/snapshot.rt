@@ -6,7 +6,7 @@ ghost use Rattle.capability.specs.Snapshot.{body_start, body_length, snapshot_of
 use crate::owner::{capability_in, capability_start};
 use crate::placed::{CAPABILITY_BODY_MAX_SIZE, CAPABILITY_HEADER_SIZE, Placed};
 
-// `length` bytes of a body; what lies past them is zero.
+// `length` bytes of a body; what lies past them is zero. C reads this layout.
 #[repr(C)]
 #[derive(Clone, Copy)]
 pub struct Snapshot {
@@ -54,7 +54,7 @@ pub fn snapshot_of(placed: Placed, image: &[u8], i: usize) -> Snapshot
     }
 }
 
-// A slice's bytes, as many as a body may have.
+// A slice's bytes, as many as a body may have; no library call fills the rest with zeros.
 #[tactic(auto, using(word::proofs::Tables::blank_filled, word::proofs::Tables::filled_more))]
 pub(crate) fn copy_of(bytes: &[u8]) -> Snapshot
     ensures { result ≡ copy_of bytes.now }

@@ -6,7 +6,7 @@ use crate::owner::capability_count;
 use crate::placed::Placed;
 use crate::snapshot::{Snapshot, body_length, body_start, copy_of};
 
-// What a view shows, copied: C can take it.
+// What a view shows, copied. A flag and counts: C reads this layout.
 #[repr(C)]
 #[derive(Clone, Copy)]
 pub struct ViewCopy {
@@ -47,7 +47,7 @@ pub fn view_of<'a>(
     }
 }
 
-// A copy of what `view_of` gives.
+// A copy of what `view_of` gives. Its parameters are those of `view_of`, a promise that keeps its form.
 pub fn view_copy<'a>(
     placed: Placed,
     index: usize,

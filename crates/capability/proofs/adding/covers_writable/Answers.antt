@@ -14,7 +14,8 @@ use Rattle.capability.proofs.adding.covers_writable.Goals as goal
 pub returns : goal.returns
 unfolding covers_writable
 returns c =
-    let a = c.args in
-    let test = λ (i : ℕ). not (eqb (mask_at a.mask.now (a.offset + i)) 0) in
-    let h = any_from_yields_List test _ _ c.any.result c.any.ensures.ran (YieldsList-from_range 0 a.length a.length refl (omega arith)) (λ x b q k. search (rules, tests)) in
-    h ∙ any_range test a.length
+    let mask = c.args.mask.now in
+    let effect = c.args.effect in
+    let test = λ (i : ℕ). not (eqb (mask_at mask (effect.offset + i)) 0) in
+    let h = any_from_yields_List test _ _ c.any.result c.any.ensures.ran (YieldsList-from_range 0 effect.length effect.length refl (omega arith)) (λ x b q k. search (rules, tests)) in
+    h ∙ any_range test effect.length

@@ -16,8 +16,10 @@ use Rattle.capability.proofs.adding.overlaps_earlier.Goals as goal
 pub returns : goal.returns
 unfolding overlaps_earlier
 returns c =
-    let a = c.args in
-    let test = λ (e : Effect). clashes e a.capability a.offset a.length in
-    let long : length a.effects ≡ effect_room = search (rules, long_unmapped) in
-    let h = any_from_yields_List test _ _ c.any.result c.any.ensures.ran (YieldsList-from_slice (take a.count a.effects) cc) (λ x b q k. search (rules, tests)) in
-    h ∙ any_taken test no_effect a.effects a.count (omega arith)
+    let effects = c.args.declared.effects in
+    let effect = c.args.effect in
+    let n = c.declared_effects-count.result in
+    let test = λ (e : Effect). clashes e effect.capability effect.offset effect.length in
+    let long : length effects ≡ effect_room = search (rules, long_unmapped) in
+    let h = any_from_yields_List test _ _ c.any.result c.any.ensures.ran (YieldsList-from_slice (take n effects) cc) (λ x b q k. search (rules, tests)) in
+    h ∙ any_taken test no_effect effects n (omega (arith, c.declared_effects-count.ensures)) ∙ rw c.declared_effects-count.ensures

@@ -12,7 +12,7 @@ use Rattle.capability.proofs.owner.first_touched.Goals as goal
 pub returns : goal.returns
 unfolding first_touched
 returns c =
-    let test = touches c.args.placed c.args.offset c.args.width in
+    let test = touches c.args.placed c.args.access.offset.0 c.args.access.width in
     let n = c.effect_count.result in
     let h = find_from_yields_List test _ _ c.find.result c.find.ensures.ran (YieldsList-from_range 0 n n refl (omega arith)) (λ x b q k. search (rules, tests)) in
     sym (option_map_id c.find.result) ∙ h ∙ find_range test n ∙ rw c.effect_count.ensures
