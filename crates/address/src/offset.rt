@@ -25,16 +25,18 @@ impl ConfigOffset {
         ConfigOffset(0)
     }
 
-    // Every byte is an offset of a config space of 256.
-    pub fn of_byte(value: u8) -> ConfigOffset
-        ensures { result ≡ offset value }
-    {
-        ConfigOffset(value as u16)
-    }
-
     pub fn value(self) -> u16
         ensures { result ≡ self.0 }
     {
         self.0
+    }
+}
+
+// Every byte is an offset of a config space of 256.
+impl From<u8> for ConfigOffset {
+    ghost from_gives = { λ value at. at ≡ offset value };
+
+    fn from(value: u8) -> ConfigOffset {
+        ConfigOffset(u16::from(value))
     }
 }

@@ -102,7 +102,7 @@ impl SoFar {
             return Err(Refusal::AboveLimit);
         }
         contents.bytes[n] = ConfigByte {
-            offset: ConfigOffset::of_byte(offset),
+            offset: ConfigOffset::from(offset),
             value,
             mask,
         };

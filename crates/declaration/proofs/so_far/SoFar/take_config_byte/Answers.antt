@@ -16,4 +16,4 @@ returns-then-n-ge-CONFIG_BYTE_LIMIT c =
 pub returns : goal.returns
 returns c =
     let a = c.args in
-    rw (c.with_function.ensures, c.of_byte.ensures) (sym (byte_taken limits a.self a.offset a.value a.mask [] c.if-self-eq0.false c.if-n-ge-CONFIG_BYTE_LIMIT.false))
+    rw (c.with_function.ensures, c.from.ensures) (sym (byte_taken limits a.self a.offset a.value a.mask [] c.if-self-eq0.false c.if-n-ge-CONFIG_BYTE_LIMIT.false))
