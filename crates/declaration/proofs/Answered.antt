@@ -8,7 +8,7 @@ use Rattle.refusal.specs.declared.refusal.Refusal.{Refusal}
 use Rattle.word.proofs.Tests.{both}
 use Rattle.address.specs.Limits.{Limits}
 use Rattle.bar.specs.declared.range.Aperture.{Aperture}
-use Rattle.declaration.specs.Answer.{declaration_with, refused_at, refused_with, declared_by, declaration_given}
+use Rattle.declaration.specs.Answer.{declaration_with, refused_at, refused_with, no_declaration, declared_by, declaration_given}
 use Rattle.declaration.specs.Exactly.{RefusedAt, FaultyAt, Passed, Outcome, at_offset, at_index, passed}
 use Rattle.declaration.specs.declared.answer.Declaration.{Declaration}
 use Rattle.declaration.specs.declared.answer.DeclarationRefusal.{DeclarationRefusal}
@@ -68,3 +68,7 @@ module _ (l : Limits) (file : List ℕ) where
   -- accepted: `passed_is` is the other way
   pub is_passed : (d : Declaration) → declared_by l file ≡ Ok d → Accepted l file d
   is_passed d = of_accepted d (declared_by l file) (outcome l file)
+
+  -- a refused file declares nothing
+  pub refused_empty : (e : DeclarationRefusal) → declared_by l file ≡ Err e → declaration_given (declared_by l file) ≡ no_declaration
+  refused_empty e h = rw h

@@ -24,3 +24,5 @@ pub mod Keeping
 pub mod Goods
 pub mod Readers
 pub mod ByteFiles
+mod Lent
+mod Handed
