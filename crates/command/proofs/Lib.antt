@@ -3,3 +3,4 @@ pub mod Numerals
 pub mod Words
 pub mod Spelling
 pub mod Examples
+pub mod Commands
