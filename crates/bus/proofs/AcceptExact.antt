@@ -1,5 +1,5 @@
 -- Acceptance exactly: a candidate is accepted if and only if it is a multiple of its size, lies in the aperture and meets the committed range of no other function's or slot's BAR; the answer says which.
-use Rattle.std.specs.Prelude.{Option, Some, None}
+use Rattle.std.specs.Prelude.{Option, Some, None, Ok}
 use Prim.Native.Nat.{ℕ, ◌/◌, ◌%◌, ◌<◌, ◌≤◌}
 use mathlib.Core.Bool.{true, false}
 use mathlib.Core.Logic.{⊎_elim}
@@ -117,7 +117,7 @@ module _ (b : Bus) (k i a : ℕ) (t : k < count_on b) (l : i < bar_count) where
         (true_or_false (accepts b k i a))
 
 -- of a write by device whose candidate is a
-pub write_settled : (d : Declaration) (b : Bus) → Sound d b → (k : ℕ) → k < d.count → (o w v i a : ℕ) → (write_of (function_at b k) o w v).reply.answer ≡ Candidate i a → Settled b k i a (bus_write_of b (declared_function d k).device o w v)
+pub write_settled : (d : Declaration) (b : Bus) → Sound d b → (k : ℕ) → k < d.count → (o w v i a : ℕ) → (write_of (function_at b k) o w v).answer ≡ Ok (Candidate i a) → Settled b k i a (bus_write_of b (declared_function d k).device o w v)
 unfolding written_on
 write_settled d b s k h o w v i a e =
     let l = candidate_slot (function_at b k) o w v i a e in

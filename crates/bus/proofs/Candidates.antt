@@ -8,12 +8,13 @@ use Rattle.config.specs.Write.{write_of}
 use Rattle.config.specs.declared.state.FunctionState.{FunctionState}
 use Rattle.config.specs.declared.write_step.WriteAnswer.TheVariants.{Candidate}
 use Rattle.config.specs.declared.write_step.WriteDone.{WriteDone}
+use Rattle.std.proofs.Common.{Ok}
 use Rattle.config.proofs.Slots.{in_bar_slot}
 use Rattle.config.proofs.WriteCases.{write_by_lem}
 
 -- a candidate's slot is one of the six
 abbrev InSlot : WriteDone → Type 0
-InSlot d = (i a : ℕ) → d.reply.answer ≡ Candidate i a → i < bar_count
+InSlot d = (i a : ℕ) → d.answer ≡ Ok (Candidate i a) → i < bar_count
 
 pub candidate_slot : (f : FunctionState) (o w v : ℕ) → InSlot (write_of f o w v)
 candidate_slot f o w v =

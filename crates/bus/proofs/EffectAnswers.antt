@@ -22,61 +22,58 @@ use Rattle.bus.specs.Bus.{count_on, function_at, index_on}
 use Rattle.bus.specs.Access.{absent_read, bus_read_of, accepts, stepped_on, absent_write, written_on, bus_write_of}
 use Rattle.bus.specs.declared.state.Bus.{Bus}
 use Rattle.bus.specs.declared.write_access.BusWriteAnswer.{BusWriteAnswer}
-use Rattle.bus.specs.declared.write_access.BusWriteAnswer.TheVariants.{Stored, Dropped, Probing, Moved, Kept, Effect, BadAccess, BadEffect, Exhausted}
+use Rattle.bus.specs.declared.write_access.BusWriteAnswer.TheVariants.{Stored, Dropped, Probing, Moved, Kept, Effect}
+use Rattle.bus.specs.declared.write_access.WriteRefusal.{WriteRefusal}
 use Rattle.bus.proofs.Dispatch.{read_declared, read_absent, write_declared, write_absent}
 use Rattle.refusal.specs.declared.refusal.Refusal.{Refusal}
 
-module _ (b : Bus) (device o w : ℕ) (hit : EffectHit) where
+module _ (b : Bus) (device o w : ℕ) (hit : EffectHit) (body : Snapshot) where
   abbrev function : FunctionState
   function = function_at b (index_on b device)
 
-  absent_read_lem : (x : Result Access Refusal) → ((absent_read x).answer ≡ read_answer.Effect hit) → ⊥
+  absent_read_lem : (x : Result Access Refusal) → (absent_read x ≡ Ok (read_answer.Effect hit body)) → ⊥
   absent_read_lem (Err r) e = let z : ◌≡◌ {A = ℕ} 0 1 = cc in omega arith
   absent_read_lem (Ok a) e = let z : ◌≡◌ {A = ℕ} 0 1 = cc in omega arith
 
-  pub bus_read_answer : (bus_read_of b device o w).answer ≡ read_answer.Effect hit → Answer function.placed o w false hit
+  pub bus_read_answer : bus_read_of b device o w ≡ Ok (read_answer.Effect hit body) → Answer function.placed o w false hit
   bus_read_answer e =
-      ⊎_elim (λ (h : index_on b device < count_on b). read_answer_lem function o w hit (rw (read_declared b device o w h) at e))
+      ⊎_elim (λ (h : index_on b device < count_on b). read_answer_lem function o w hit body (rw (read_declared b device o w h) at e))
       (λ (h : count_on b ≤ index_on b device). absurd (absent_read_lem (access_of config_space_size o w) (rw (read_absent b device o w h) at e)))
       (below_or_not (index_on b device) (count_on b))
 
 -- what is shown of each answer to a write: nothing where it is no effect's
 module _ (b : Bus) (k o w : ℕ) where
-  abbrev Told : BusWriteAnswer → Type 0
-  Told Stored = Unit {0}
-  Told Dropped = Unit {0}
-  Told (Probing slot) = Unit {0}
-  Told (Moved slot address) = Unit {0}
-  Told (Kept slot address) = Unit {0}
-  Told (Effect hit) = Answer (function_at b k).placed o w true hit
-  Told BadAccess = Unit {0}
-  Told BadEffect = Unit {0}
-  Told (Exhausted device) = Unit {0}
+  abbrev Told : Result BusWriteAnswer WriteRefusal → Type 0
+  Told (Ok Stored) = Unit {0}
+  Told (Ok Dropped) = Unit {0}
+  Told (Ok (Probing slot)) = Unit {0}
+  Told (Ok (Moved slot address)) = Unit {0}
+  Told (Ok (Kept slot address)) = Unit {0}
+  Told (Ok (Effect hit body)) = Answer (function_at b k).placed o w true hit
+  Told (Err r) = Unit {0}
 
-  absent_write_lem : (x : Result Access Refusal) → Told (absent_write b x).reply.answer
+  absent_write_lem : (x : Result Access Refusal) → Told (absent_write b x).answer
   absent_write_lem (Err r) = tt
   absent_write_lem (Ok a) = tt
 
   module _ (v : ℕ) where
-    stepped : (f : FunctionState) (body : Snapshot) (a : WriteAnswer) → (write_of (function_at b k) o w v).reply.answer ≡ a → Told (stepped_on b k f body a).reply.answer
-    stepped f body write_answer.Stored e = tt
-    stepped f body (write_answer.Probing i) e = tt
-    stepped f body (write_answer.Candidate i a) e =
+    stepped : (f : FunctionState) (a : Result WriteAnswer Refusal) → (write_of (function_at b k) o w v).answer ≡ a → Told (stepped_on b k f a).answer
+    stepped f (Ok write_answer.Stored) e = tt
+    stepped f (Ok (write_answer.Probing i)) e = tt
+    stepped f (Ok (write_answer.Candidate i a)) e =
         ⊎_elim (λ (t : accepts b k i a ≡ true). rw t tt) (λ (t : accepts b k i a ≡ false). rw t tt) (true_or_false (accepts b k i a))
-    stepped f body (write_answer.Effect hit) e = write_answer_lem (function_at b k) o w hit v e
-    stepped f body write_answer.BadAccess e = tt
-    stepped f body write_answer.BadEffect e = tt
-    stepped f body write_answer.Exhausted e = tt
+    stepped f (Ok (write_answer.Effect hit body)) e = write_answer_lem (function_at b k) o w hit body v e
+    stepped f (Err r) e = tt
 
-    written : Told (written_on b k o w v).reply.answer
+    written : Told (written_on b k o w v).answer
     unfolding written_on
-    written = stepped (write_of (function_at b k) o w v).state (write_of (function_at b k) o w v).reply.body (write_of (function_at b k) o w v).reply.answer refl
+    written = stepped (write_of (function_at b k) o w v).state (write_of (function_at b k) o w v).answer refl
 
-write_told : (b : Bus) (device o w v : ℕ) → Told b (index_on b device) o w (bus_write_of b device o w v).reply.answer
+write_told : (b : Bus) (device o w v : ℕ) → Told b (index_on b device) o w (bus_write_of b device o w v).answer
 write_told b device o w v =
     ⊎_elim (λ (h : index_on b device < count_on b). rw (write_declared b device o w v h) (written b (index_on b device) o w v))
     (λ (h : count_on b ≤ index_on b device). rw (write_absent b device o w v h) (absent_write_lem b (index_on b device) o w (access_of config_space_size o w)))
     (below_or_not (index_on b device) (count_on b))
 
-pub bus_write_answer : (b : Bus) (device o w v : ℕ) (hit : EffectHit) → (bus_write_of b device o w v).reply.answer ≡ Effect hit → Answer (function_at b (index_on b device)).placed o w true hit
-bus_write_answer b device o w v hit e = subst (Told b (index_on b device) o w) e (write_told b device o w v)
+pub bus_write_answer : (b : Bus) (device o w v : ℕ) (hit : EffectHit) (body : Snapshot) → (bus_write_of b device o w v).answer ≡ Ok (Effect hit body) → Answer (function_at b (index_on b device)).placed o w true hit
+bus_write_answer b device o w v hit body e = subst (Told b (index_on b device) o w) e (write_told b device o w v)

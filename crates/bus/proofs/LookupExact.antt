@@ -2,7 +2,7 @@
 use Prim.Native.Nat.{ℕ, ◌+◌, ◌-◌, ◌/◌, ◌%◌, ◌<◌, ◌≤◌}
 use mathlib.Core.Bool.{true, false, cond}
 use mathlib.Core.Logic.{⊎_elim}
-use mathlib.Core.Path.{◌≡◌}
+use mathlib.Core.Path.{◌≡◌, ap, sym}
 use native.Mathlib.Nat.{mod-lt}
 use native.Mathlib.Omega.{arith}
 use borrow.Author.Tests.{le-leb}
@@ -18,17 +18,25 @@ use Rattle.bar.proofs.Ranges.{In, common_meets}
 use Rattle.placement.specs.Keys.{key_count}
 use Rattle.declaration.specs.declared.answer.Declaration.{Declaration}
 use Rattle.bus.specs.Bus.{count_on, device_at, function_at, key_of, bar_in}
-use Rattle.bus.specs.Lookup.{most_lookup, decodes, holds_at, lookup_of, lookup_number}
+use Rattle.bus.specs.Lookup.{most_lookup, decodes, holds_at, hit_of, lookup_of}
 use Rattle.bus.specs.Held.{Held, Looked, hit, miss, bad_width}
 use Rattle.bus.specs.Sound.{Sound}
 use Rattle.bus.specs.Start.{declared_function}
 use Rattle.bus.specs.declared.state.Bus.{Bus}
-use Rattle.bus.specs.declared.memory_lookup.LookupAnswer.{LookupAnswer}
-use Rattle.bus.specs.declared.memory_lookup.LookupAnswer.TheVariants.{Hit, Miss}
+use Rattle.bus.specs.declared.memory_lookup.Hit.{Hit}
+use Rattle.std.proofs.Common.{Option, None, Result, Ok}
+use Rattle.refusal.specs.Refusal.{answer_number}
+use Rattle.refusal.specs.declared.refusal.Refusal.{Refusal}
 use Rattle.bus.proofs.Committed.{range_there, range_past, range_slot}
 use Rattle.bus.proofs.Devices.{sound_only}
 use Rattle.bus.proofs.Lookups.{lookup_width, lookup_hit, lookup_miss, holds_decodes, holds_from, holds_to}
 use Rattle.bus.proofs.SoundParts.{sound_count}
+
+-- two hits that are one have one device, slot and offset
+hit_parts : (x y z p q r : ℕ) → ◌≡◌ {A = Result (Option Hit) Refusal} (Ok (hit_of x y z)) (Ok (hit_of p q r)) → (x ≡ p) × (y ≡ q) × (z ≡ r)
+hit_parts x y z p q r e =
+    let h : ◌≡◌ {A = Hit} (record { device = x; slot = y; offset = z }) (record { device = p; slot = q; offset = r }) = cc in
+    (ap (λ (t : Hit). t.device) h, ap (λ (t : Hit). t.slot) h, ap (λ (t : Hit). t.offset) h)
 
 module _ (b : Bus) (a w : ℕ) where
   -- held by function and slot is held by key
@@ -57,7 +65,7 @@ module _ (b : Bus) (a w : ℕ) where
     looked_none f = rw (lookup_miss b a w e f) (miss e (λ k i h. both (held_holds k i h) (f (key_of k i) (omega (arith, h.there, h.slot)))))
 
     -- where none holds it, it is missed
-    pub none_miss : ((k i : ℕ) → Held b a w k i → ⊥) → lookup_of b a w ≡ Miss
+    pub none_miss : ((k i : ℕ) → Held b a w k i → ⊥) → lookup_of b a w ≡ Ok None
     none_miss none = lookup_miss b a w e (λ key h. never (holds_at b a w key) (λ t. none (key / bar_count) (key % bar_count) (holds_held key t)))
 
   -- on every bus the answer says what is so
@@ -67,39 +75,39 @@ module _ (b : Bus) (a w : ℕ) where
       (λ (e : width_ok most_lookup w ≡ false). rw (lookup_width b a w e) (bad_width e)) (true_or_false (width_ok most_lookup w))
 
   -- a hit is of one that holds the access, with its device, slot and offset
-  when_hit : (r : LookupAnswer) (device slot offset : ℕ) → Looked b a w r → r ≡ Hit device slot offset → (k : ℕ) × Held b a w k slot × (device ≡ device_at b k) × (offset ≡ a - (bar_in b k slot).address)
+  when_hit : (r : Result (Option Hit) Refusal) (device slot offset : ℕ) → Looked b a w r → r ≡ Ok (hit_of device slot offset) → (k : ℕ) × Held b a w k slot × (device ≡ device_at b k) × (offset ≡ a - (bar_in b k slot).address)
   when_hit r device slot offset (hit e k i h) q =
-      let s : i ≡ slot = cc in
-      (k, rw s at h, cc, rw (← s) (cc))
+      let p = hit_parts (device_at b k) i (a - (bar_in b k i).address) device slot offset q in
+      (k, rw p.1 at h, sym p.0, rw (← p.1) (sym p.2))
   when_hit r device slot offset (miss e n) q = let z : ◌≡◌ {A = ℕ} 0 1 = cc in absurd (omega arith)
   when_hit r device slot offset (bad_width e) q = let z : ◌≡◌ {A = ℕ} 0 1 = cc in absurd (omega arith)
 
-  pub hit_held : (device slot offset : ℕ) → lookup_of b a w ≡ Hit device slot offset → (k : ℕ) × Held b a w k slot × (device ≡ device_at b k) × (offset ≡ a - (bar_in b k slot).address)
+  pub hit_held : (device slot offset : ℕ) → lookup_of b a w ≡ Ok (hit_of device slot offset) → (k : ℕ) × Held b a w k slot × (device ≡ device_at b k) × (offset ≡ a - (bar_in b k slot).address)
   hit_held device slot offset q = when_hit (lookup_of b a w) device slot offset lookup_looked q
 
-  pub hit_width : (device slot offset : ℕ) → lookup_of b a w ≡ Hit device slot offset → width_ok most_lookup w ≡ true
+  pub hit_width : (device slot offset : ℕ) → lookup_of b a w ≡ Ok (hit_of device slot offset) → width_ok most_lookup w ≡ true
   hit_width device slot offset q =
       ⊎_elim (λ (e : width_ok most_lookup w ≡ true). e) (λ (e : width_ok most_lookup w ≡ false). let z : ◌≡◌ {A = ℕ} 0 1 = cc (lookup_width b a w e) in absurd (omega arith)) (true_or_false (width_ok most_lookup w))
 
   -- a miss means that none holds it
-  when_miss : (r : LookupAnswer) → Looked b a w r → r ≡ Miss → (k i : ℕ) → Held b a w k i → ⊥
+  when_miss : (r : Result (Option Hit) Refusal) → Looked b a w r → r ≡ Ok None → (k i : ℕ) → Held b a w k i → ⊥
   when_miss r (hit e k i h) q = let z : ◌≡◌ {A = ℕ} 0 1 = cc in absurd (omega arith)
   when_miss r (miss e n) q = n
   when_miss r (bad_width e) q = let z : ◌≡◌ {A = ℕ} 0 1 = cc in absurd (omega arith)
 
-  pub miss_none : lookup_of b a w ≡ Miss → (k i : ℕ) → Held b a w k i → ⊥
+  pub miss_none : lookup_of b a w ≡ Ok None → (k i : ℕ) → Held b a w k i → ⊥
   miss_none q = when_miss (lookup_of b a w) lookup_looked q
 
   -- 18 exactly for other widths
-  pub width_refused : width_ok most_lookup w ≡ false → lookup_number (lookup_of b a w) ≡ bad_access
+  pub width_refused : width_ok most_lookup w ≡ false → answer_number (lookup_of b a w) ≡ bad_access
   width_refused e = rw (lookup_width b a w e)
 
-  when_refused : (r : LookupAnswer) → Looked b a w r → lookup_number r ≡ bad_access → width_ok most_lookup w ≡ false
+  when_refused : (r : Result (Option Hit) Refusal) → Looked b a w r → answer_number r ≡ bad_access → width_ok most_lookup w ≡ false
   when_refused r (hit e k i h) q = absurd (omega arith)
   when_refused r (miss e n) q = absurd (omega arith)
   when_refused r (bad_width e) q = e
 
-  pub refused_width : lookup_number (lookup_of b a w) ≡ bad_access → width_ok most_lookup w ≡ false
+  pub refused_width : answer_number (lookup_of b a w) ≡ bad_access → width_ok most_lookup w ≡ false
   refused_width q = when_refused (lookup_of b a w) lookup_looked q
 
 module _ (d : Declaration) (b : Bus) (s : Sound d b) where
@@ -119,22 +127,22 @@ module _ (d : Declaration) (b : Bus) (s : Sound d b) where
     held_one j h k i p q = range_one a j h k i p.there p.slot q.there q.slot (held_in j h p) (held_in k i q)
 
     -- so the one that holds it is the one that is hit
-    when_held : (r : LookupAnswer) (k i : ℕ) → Held b a w k i → Looked b a w r → r ≡ Hit (device_at b k) i (a - (bar_in b k i).address)
+    when_held : (r : Result (Option Hit) Refusal) (k i : ℕ) → Held b a w k i → Looked b a w r → r ≡ Ok (hit_of (device_at b k) i (a - (bar_in b k i).address))
     when_held r k i h (hit t j g l) = let q = held_one j g k i l h in rw (q.0, q.1)
     when_held r k i h (miss t n) = absurd (n k i h)
     when_held r k i h (bad_width t) = absurd (both e t)
 
-    pub held_hit : (k i : ℕ) → Held b a w k i → lookup_of b a w ≡ Hit (device_at b k) i (a - (bar_in b k i).address)
+    pub held_hit : (k i : ℕ) → Held b a w k i → lookup_of b a w ≡ Ok (hit_of (device_at b k) i (a - (bar_in b k i).address))
     held_hit k i h = when_held (lookup_of b a w) k i h (lookup_looked b a w)
 
   -- and whatever is so is the answer
-  pub looked_lookup : (a w : ℕ) (r : LookupAnswer) → Looked b a w r → lookup_of b a w ≡ r
+  pub looked_lookup : (a w : ℕ) (r : Result (Option Hit) Refusal) → Looked b a w r → lookup_of b a w ≡ r
   looked_lookup a w r (hit e k i h) = held_hit a w e k i h
   looked_lookup a w r (miss e n) = none_miss b a w e n
   looked_lookup a w r (bad_width e) = lookup_width b a w e
 
   -- a whole access in a BAR is hit, with its offset there, exactly while the BAR's function decodes
-  pub lookup_within : (k i : ℕ) → k < d.count → i < bar_count → (a w : ℕ) → width_ok most_lookup w ≡ true → (bar_in b k i).address ≤ a → a + w ≤ end_of (range_of (bar_in b k i)) → lookup_of b a w ≡ cond (decodes (function_at b k)) (Hit (device_at b k) i (a - (bar_in b k i).address)) Miss
+  pub lookup_within : (k i : ℕ) → k < d.count → i < bar_count → (a w : ℕ) → width_ok most_lookup w ≡ true → (bar_in b k i).address ≤ a → a + w ≤ end_of (range_of (bar_in b k i)) → lookup_of b a w ≡ Ok (cond (decodes (function_at b k)) (hit_of (device_at b k) i (a - (bar_in b k i).address)) None)
   lookup_within k i h l a w e f g =
       let n : k < count_on b = rw (sound_count d b s) h in
       ⊎_elim (λ (t : decodes (function_at b k) ≡ true). rw (t, held_hit a w e k i (record { there = n; slot = l; decoding = t; from = f; to = g })))
@@ -143,7 +151,7 @@ module _ (d : Declaration) (b : Bus) (s : Sound d b) where
       (true_or_false (decodes (function_at b k)))
 
   -- a hit with a declared function's device is of a BAR of that function
-  pub hit_its : (k : ℕ) → k < d.count → (a w slot offset : ℕ) → lookup_of b a w ≡ Hit (declared_function d k).device slot offset → Held b a w k slot × (offset ≡ a - (bar_in b k slot).address)
+  pub hit_its : (k : ℕ) → k < d.count → (a w slot offset : ℕ) → lookup_of b a w ≡ Ok (hit_of (declared_function d k).device slot offset) → Held b a w k slot × (offset ≡ a - (bar_in b k slot).address)
   hit_its k h a w slot offset q =
       let r = hit_held b a w (declared_function d k).device slot offset q in
       let e : r.0 ≡ k = sound_only d b s r.0 k (rw (sound_count d b s) at r.1.there) h r.2 in

@@ -1,7 +1,7 @@
 -- Memory lookup, by the first BAR that holds the access.
 use Prim.Native.Nat.{ℕ, ◌/◌, ◌<◌, ◌≤◌, ◌+◌}
 use mathlib.Core.Bool.{true, false, ◌&&◌}
-use mathlib.Core.Path.{◌≡◌}
+use mathlib.Core.Path.{◌≡◌, ap}
 use borrow.Author.Tests.{leb-true}
 use lib.Dec.{leb}
 use lib.ListN.{get_or}
@@ -19,20 +19,21 @@ use Rattle.bus.specs.Bus.{function_at, range_on, ranges_on}
 use Rattle.bus.specs.Lookup.{most_lookup, decodes, decoding_on, lies_within, holds_at, hit_at, lookup_of}
 use Rattle.bus.specs.declared.state.Bus.{Bus}
 use Rattle.bus.proofs.Committed.{range_listed}
-use Rattle.bus.specs.declared.memory_lookup.LookupAnswer.TheVariants.{Miss, BadWidth}
+use Rattle.std.proofs.Common.{None, Ok, Err}
+use Rattle.refusal.specs.declared.refusal.Refusal.TheVariants.{BadAccess}
 
 module _ (b : Bus) (a w : ℕ) where
-  pub lookup_width : width_ok most_lookup w ≡ false → lookup_of b a w ≡ BadWidth
+  pub lookup_width : width_ok most_lookup w ≡ false → lookup_of b a w ≡ Err BadAccess
   unfolding lookup_of
   lookup_width e = rw e
 
-  pub lookup_hit : (key : ℕ) → width_ok most_lookup w ≡ true → First (holds_at b a w) key_count key → lookup_of b a w ≡ hit_at b a key
+  pub lookup_hit : (key : ℕ) → width_ok most_lookup w ≡ true → First (holds_at b a w) key_count key → lookup_of b a w ≡ Ok (hit_at b a key)
   unfolding lookup_of
-  lookup_hit key e f = rw e (first_is (hit_at b a) Miss (holds_at b a w) key_count key f)
+  lookup_hit key e f = rw e (ap Ok (first_is (hit_at b a) None (holds_at b a w) key_count key f))
 
-  pub lookup_miss : width_ok most_lookup w ≡ true → ((k : ℕ) → k < key_count → holds_at b a w k ≡ false) → lookup_of b a w ≡ Miss
+  pub lookup_miss : width_ok most_lookup w ≡ true → ((k : ℕ) → k < key_count → holds_at b a w k ≡ false) → lookup_of b a w ≡ Ok None
   unfolding lookup_of
-  lookup_miss e h = rw e (first_none (hit_at b a) Miss (holds_at b a w) key_count h)
+  lookup_miss e h = rw e (ap Ok (first_none (hit_at b a) None (holds_at b a w) key_count h))
 
   -- asked of the lists
   pub holds_listed : (key : ℕ) (d : Range) → key < key_count → (get_or (decoding_on b) (key / bar_count) false && lies_within (get_or (ranges_on b) key d) a w) ≡ holds_at b a w key

@@ -7,29 +7,23 @@ use Rattle.word.proofs.Tests.{both, never}
 use Rattle.bus.specs.Access.{bus_write_number, bus_write_of, changes}
 use Rattle.bus.specs.declared.state.Bus.{Bus}
 use Rattle.bus.specs.declared.write_access.BusWriteAnswer.{BusWriteAnswer}
-use Rattle.bus.specs.declared.write_access.BusWriteAnswer.TheVariants.{Stored, Dropped, Probing, Moved, Kept, Effect, BadAccess, BadEffect, Exhausted}
+use Rattle.bus.specs.declared.write_access.WriteRefusal.{WriteRefusal}
+use Rattle.std.proofs.Common.{Result, Ok, Err}
 use Rattle.bus.proofs.AccessCases.{access_by}
 
 -- whatever changes a function is accepted
-changes_accepted : (a : BusWriteAnswer) → changes a ≡ true → bus_write_number a ≡ accepted
-changes_accepted Stored e = refl
-changes_accepted Dropped e = refl
-changes_accepted (Probing slot) e = refl
-changes_accepted (Moved slot address) e = refl
-changes_accepted (Kept slot address) e = refl
-changes_accepted (Effect hit) e = refl
-changes_accepted BadAccess e = absurd (both e refl)
-changes_accepted BadEffect e = absurd (both e refl)
-changes_accepted (Exhausted device) e = absurd (both e refl)
+changes_accepted : (a : Result BusWriteAnswer WriteRefusal) → changes a ≡ true → bus_write_number a ≡ accepted
+changes_accepted (Ok a) e = refl
+changes_accepted (Err r) e = absurd (both e refl)
 
 module _ (b : Bus) (device o w v : ℕ) where
   -- neither stored, probing, moved nor kept: the bus is the one before
-  pub unchanged : changes (bus_write_of b device o w v).reply.answer ≡ false → (bus_write_of b device o w v).bus ≡ b
+  pub unchanged : changes (bus_write_of b device o w v).answer ≡ false → (bus_write_of b device o w v).bus ≡ b
   unchanged =
-      access_by (λ d. changes d.reply.answer ≡ false → d.bus ≡ b) b o w v
-      (record { still = λ a body q e. refl; stored = λ k body h e. absurd (both refl e); probing = λ k i body h e. absurd (both refl e); moved = λ k i a h l t e. absurd (both refl e); kept = λ k i a h l t e. absurd (both refl e) })
+      access_by (λ d. changes d.answer ≡ false → d.bus ≡ b) b o w v
+      (record { still = λ a q e. refl; stored = λ k h e. absurd (both refl e); probing = λ k i h e. absurd (both refl e); moved = λ k i a h l t e. absurd (both refl e); kept = λ k i a h l t e. absurd (both refl e) })
       device
 
-  pub refused_changes_nothing : (bus_write_number (bus_write_of b device o w v).reply.answer ≡ accepted → ⊥) → (bus_write_of b device o w v).bus ≡ b
+  pub refused_changes_nothing : (bus_write_number (bus_write_of b device o w v).answer ≡ accepted → ⊥) → (bus_write_of b device o w v).bus ≡ b
   refused_changes_nothing h =
-      unchanged (never (changes (bus_write_of b device o w v).reply.answer) (λ t. h (changes_accepted (bus_write_of b device o w v).reply.answer t)))
+      unchanged (never (changes (bus_write_of b device o w v).answer) (λ t. h (changes_accepted (bus_write_of b device o w v).answer t)))

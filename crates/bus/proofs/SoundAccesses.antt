@@ -41,9 +41,9 @@ module _ (d : Declaration) (b : Bus) (s : Sound d b) where
   sound_access device o w v =
       access_by (λ t. Sound d t.bus) b o w v
       (record {
-        still = λ a body e. s;
-        stored = λ k body h. sound_write d b s k (declared k h) o w v;
-        probing = λ k i body h. sound_write d b s k (declared k h) o w v;
+        still = λ a e. s;
+        stored = λ k h. sound_write d b s k (declared k h) o w v;
+        probing = λ k i h. sound_write d b s k (declared k h) o w v;
         moved = λ k i a h l t.
             let p = accepts_place b k i a t in
             sound_moved d b s k (declared k h) i l a p.aligned p.within (clear_of (range a (bar_at (function_at b k).bars i).plan.size) (key_of k i) p.free);

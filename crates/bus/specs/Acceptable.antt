@@ -1,5 +1,5 @@
 -- Which addresses a BAR can be moved to, in document 01's words, by function and slot, and what a write that asks for one answers. proofs/AcceptExact.antt shows that `accepts` and `bus_write_of` are this.
-use Rattle.std.specs.Prelude.{ℕ, ◌<◌, true, false, ◌≡◌}
+use Rattle.std.specs.Prelude.{ℕ, ◌<◌, true, false, ◌≡◌, Ok}
 use Rattle.address.specs.Layout.{bar_count}
 use Rattle.bar.specs.Range.{range, multiple, lies_in, meets}
 use Rattle.bar.specs.State.{range_of}
@@ -22,7 +22,7 @@ pub record Acceptable (b : Bus) (k i a : ℕ) : Type 0 where
 
 -- the answer of a write, and the BAR after it: "probing ends"
 pub record Told (r : BusWriteDone) (k i : ℕ) (answer : BusWriteAnswer) (address : ℕ) : Type 0 where
-  pub says : r.reply.answer ≡ answer
+  pub says : r.answer ≡ Ok answer
   pub committed : (bar_in r.bus k i).address ≡ address
   pub ends : (bar_in r.bus k i).probing ≡ false
 
@@ -30,5 +30,5 @@ pub record Told (r : BusWriteDone) (k i : ℕ) (answer : BusWriteAnswer) (addres
 pub record Settled (b : Bus) (k i a : ℕ) (r : BusWriteDone) : Type 0 where
   pub moved : Acceptable b k i a → Told r k i (Moved i a) a
   pub kept : (Acceptable b k i a → ⊥) → Told r k i (Kept i (bar_in b k i).address) (bar_in b k i).address
-  pub moved_only : (slot address : ℕ) → r.reply.answer ≡ Moved slot address → Acceptable b k i a
-  pub kept_only : (slot address : ℕ) → r.reply.answer ≡ Kept slot address → Acceptable b k i a → ⊥
+  pub moved_only : (slot address : ℕ) → r.answer ≡ Ok (Moved slot address) → Acceptable b k i a
+  pub kept_only : (slot address : ℕ) → r.answer ≡ Ok (Kept slot address) → Acceptable b k i a → ⊥

@@ -1,12 +1,11 @@
 -- What the reset of a bus answers and leaves, in document 01's words: "the answer is 20 with the lowest such device, everything else done". proofs/ResetExact.antt shows of a sound bus that an answer is given exactly if it is this, proofs/RestoredBars.antt of every bus with its eight places for functions that its reset is `BusRestored`.
-use Rattle.std.specs.Prelude.{ℕ, ◌+◌, ◌<◌, ◌≤◌, min, false, ◌≡◌}
+use Rattle.std.specs.Prelude.{ℕ, ◌+◌, ◌<◌, ◌≤◌, min, false, ◌≡◌, Result, Ok, Err}
 use Rattle.config.specs.Command.{largest_revision}
 use Rattle.config.specs.Same.{Same}
 use Rattle.config.specs.State.{bar_at}
 use Rattle.config.specs.declared.state.FunctionState.{FunctionState}
 use Rattle.bus.specs.Bus.{count_on, device_at, function_at}
-use Rattle.bus.specs.declared.bus_reset.BusResetAnswer.{BusResetAnswer}
-use Rattle.bus.specs.declared.bus_reset.BusResetAnswer.TheVariants.{Restored, Exhausted}
+use Rattle.bus.specs.declared.bus_reset.Exhausted.{Exhausted}
 use Rattle.bus.specs.declared.state.Bus.{Bus}
 
 -- a device whose revision is "already at its largest"
@@ -22,9 +21,9 @@ pub record LowestSpent (b : Bus) (device : ℕ) : Type 0 where
   pub lowest : (other : ℕ) → Spent b other → device ≤ other
 
 -- 20 with a device says that it is the lowest, and all restored that there is none
-abbrev pub ResetSays : Bus → BusResetAnswer → Type 0
-ResetSays b (Exhausted device) = LowestSpent b device
-ResetSays b Restored = (device : ℕ) → Spent b device → ⊥
+abbrev pub ResetSays : Bus → Result Unit Exhausted → Type 0
+ResetSays b (Err e) = LowestSpent b e.0
+ResetSays b (Ok t) = (device : ℕ) → Spent b device → ⊥
 
 -- a function f after the reset is g. "Reset restores every function's live image and BARs, ends probing, then adds 1 to each revision. One already at its largest stays". Masks, plans, capabilities and the power-on image are the same
 pub record FunctionRestored (f g : FunctionState) : Type 0 where

@@ -1,49 +1,45 @@
 // Reset of the whole bus.
 ghost use Rattle.std.specs.Prelude.{◌≡◌, ◌≤◌};
 ghost use Rattle.address.specs.Limits.{function_room};
-ghost use Rattle.bus.specs.Reset.{reset_first, reset_answer, bus_reset_of, bus_reset_number};
+ghost use Rattle.bus.specs.Reset.{reset_first, reset_answer, bus_reset_of};
+ghost use Rattle.refusal.specs.declared.refusal.Refusal.TheVariants.{RevisionExhausted};
 
 use crate::state::{Bus, count_on};
 use address::limits::FUNCTION_LIMIT;
 use config::{FunctionState, LARGEST_REVISION};
+use refusal::Refusal;
 
-// All restored; or 20 with the lowest device whose revision was at its largest, everything else done.
-#[derive(Clone, Copy)]
-pub enum BusResetAnswer {
-    Restored,
-    Exhausted(u8),
-}
+// Refusal 20: the lowest device whose revision was at its largest.
+#[derive(Clone, Copy, Debug, PartialEq, Eq)]
+pub struct Exhausted(pub u8);
 
-#[derive(Clone, Copy)]
-pub struct BusResetDone {
-    pub answer: BusResetAnswer,
-    pub bus: Bus,
-}
+impl From<Exhausted> for Refusal {
+    ghost from_gives = { λ _ refusal. refusal ≡ RevisionExhausted };
 
-impl BusResetAnswer {
-    // Document 01's number for the answer.
-    pub fn number(self) -> u8
-        ensures { result ≡ bus_reset_number self }
-    {
-        match self {
-            BusResetAnswer::Restored => refusal::ACCEPTED,
-            BusResetAnswer::Exhausted(_) => refusal::REVISION_EXHAUSTED,
-        }
+    fn from(_device: Exhausted) -> Refusal {
+        Refusal::RevisionExhausted
     }
 }
 
+// All restored; or 20, everything else done, so the bus stands beside the answer.
+#[derive(Clone, Copy)]
+pub struct BusResetDone {
+    pub answer: Result<(), Exhausted>,
+    pub bus: Bus,
+}
+
 // The lowest device whose revision is at its largest.
-fn reset_answer(bus: Bus) -> BusResetAnswer
+fn reset_answer(bus: Bus) -> Result<(), Exhausted>
     ensures { result ≡ reset_answer bus }
 {
     let count = count_on(bus.count);
     for k in 0..count {
         let function = bus.functions[k];
         if function.revision == LARGEST_REVISION {
-            return BusResetAnswer::Exhausted(bus.devices[k]);
+            return Err(Exhausted(bus.devices[k]));
         }
     }
-    BusResetAnswer::Restored
+    Ok(())
 }
 
 // Every function restored.

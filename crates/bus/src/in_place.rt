@@ -3,9 +3,9 @@ ghost use Rattle.std.specs.Prelude.{◌≡◌};
 ghost use Rattle.bus.specs.Access.{bus_write_of};
 ghost use Rattle.bus.specs.Reset.{bus_reset_of};
 
-use crate::bus_reset::{BusResetAnswer, reset};
+use crate::bus_reset::{Exhausted, reset};
 use crate::state::Bus;
-use crate::write_access::{BusWriteReply, write};
+use crate::write_access::{BusWriteAnswer, WriteRefusal, write};
 
 // `width` bytes of `value`, to be written at `offset` of a device.
 #[repr(C)]
@@ -18,16 +18,16 @@ pub struct BusWrite {
 }
 
 // Writes to a lent bus.
-pub fn write_in_place(bus: &mut Bus, w: BusWrite) -> BusWriteReply
-    ensures { (result ≡ (bus_write_of bus.old w.device w.offset w.width w.value).reply) × (bus.new ≡ (bus_write_of bus.old w.device w.offset w.width w.value).bus) }
+pub fn write_in_place(bus: &mut Bus, w: BusWrite) -> Result<BusWriteAnswer, WriteRefusal>
+    ensures { (result ≡ (bus_write_of bus.old w.device w.offset w.width w.value).answer) × (bus.new ≡ (bus_write_of bus.old w.device w.offset w.width w.value).bus) }
 {
     let d = write(*bus, w.device, w.offset, w.width, w.value);
     *bus = d.bus;
-    d.reply
+    d.answer
 }
 
 // Resets a lent bus.
-pub fn reset_in_place(bus: &mut Bus) -> BusResetAnswer
+pub fn reset_in_place(bus: &mut Bus) -> Result<(), Exhausted>
     ensures { (result ≡ (bus_reset_of bus.old).answer) × (bus.new ≡ (bus_reset_of bus.old).bus) }
 {
     let d = reset(*bus);

@@ -1,6 +1,6 @@
 // Memory lookup.
 ghost use Rattle.std.specs.Prelude.{◌≡◌, ◌&&◌};
-ghost use Rattle.bus.specs.Lookup.{decodes, decoding_on, lies_within, lookup_of, lookup_number};
+ghost use Rattle.bus.specs.Lookup.{decodes, decoding_on, lies_within, lookup_of};
 
 use crate::ranges::ranges_on;
 use crate::state::Bus;
@@ -9,37 +9,17 @@ use address::limits::{BAR_SLOTS, FUNCTION_LIMIT};
 use bar::Range;
 use config::FunctionState;
 use placement::KEY_COUNT;
+use refusal::Refusal;
 
-// Device, slot and offset; a miss; or refusal 18.
-#[derive(Clone, Copy)]
-pub enum LookupAnswer {
-    Hit {
-        device: u8,
-        slot: usize,
-        offset: u64,
-    },
-    Miss,
-    BadWidth,
+// The BAR that holds an access, and the access's offset in it.
+#[derive(Clone, Copy, Debug, PartialEq, Eq)]
+pub struct Hit {
+    pub device: u8,
+    pub slot: usize,
+    pub offset: u64,
 }
 
 const WIDTH_MOST: usize = 8;
-
-impl LookupAnswer {
-    // Document 01's number for the answer.
-    pub fn number(self) -> u8
-        ensures { result ≡ lookup_number self }
-    {
-        match self {
-            LookupAnswer::Hit {
-                device: _,
-                slot: _,
-                offset: _,
-            } => refusal::ACCEPTED,
-            LookupAnswer::Miss => refusal::ACCEPTED,
-            LookupAnswer::BadWidth => refusal::BAD_ACCESS,
-        }
-    }
-}
 
 // Whether a function answers memory accesses.
 fn decodes_memory(function: FunctionState) -> bool
@@ -80,13 +60,13 @@ fn holds(answers: bool, range: Range, address: u64, width: usize) -> bool
     false
 }
 
-// The BAR that answers an access of `width` bytes at a memory address.
-pub fn lookup(bus: Bus, address: u64, width: usize) -> LookupAnswer
+// The BAR that answers an access of `width` bytes at a memory address; none is a miss, and another width is refusal 18.
+pub fn lookup(bus: Bus, address: u64, width: usize) -> Result<Option<Hit>, Refusal>
     ensures { result ≡ lookup_of bus address width }
 {
     let known = word::width_ok(WIDTH_MOST, width);
     if !known {
-        return LookupAnswer::BadWidth;
+        return Err(Refusal::BadAccess);
     }
     let ranges = ranges_on(bus);
     let decoding = decoding_on(bus);
@@ -94,12 +74,12 @@ pub fn lookup(bus: Bus, address: u64, width: usize) -> LookupAnswer
         let held = holds(decoding[key / BAR_SLOTS], ranges[key], address, width);
         if held {
             let range = ranges[key];
-            return LookupAnswer::Hit {
+            return Ok(Some(Hit {
                 device: bus.devices[key / BAR_SLOTS],
                 slot: key % BAR_SLOTS,
                 offset: address - range.start,
-            };
+            }));
         }
     }
-    LookupAnswer::Miss
+    Ok(None)
 }

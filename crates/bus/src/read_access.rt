@@ -8,7 +8,8 @@ ghost use Rattle.bus.specs.Access.{absent_read, bus_read_of};
 use crate::state::{Bus, count_on, index_of};
 use address::check;
 use address::config_layout::CONFIG_SPACE_SIZE;
-use config::{ReadAnswer, ReadReply, no_body};
+use config::ReadAnswer;
+use refusal::Refusal;
 
 // All ones of a width.
 fn ones(width: usize) -> u64
@@ -23,23 +24,15 @@ fn ones(width: usize) -> u64
 }
 
 // A read where no function is declared.
-fn absent_read(offset: usize, width: usize) -> ReadReply
+fn absent_read(offset: usize, width: usize) -> Result<ReadAnswer, Refusal>
     ensures { result ≡ absent_read (access_of config_space_size offset width) }
 {
-    match check(CONFIG_SPACE_SIZE, offset, width) {
-        Ok(access) => ReadReply {
-            answer: ReadAnswer::Value(ones(access.width)),
-            body: no_body(),
-        },
-        Err(_) => ReadReply {
-            answer: ReadAnswer::BadAccess,
-            body: no_body(),
-        },
-    }
+    let access = check(CONFIG_SPACE_SIZE, offset, width)?;
+    Ok(ReadAnswer::Value(ones(access.width)))
 }
 
-// Reads `width` bytes at `offset` of a device; nothing changes.
-pub fn read(bus: Bus, device: usize, offset: usize, width: usize) -> ReadReply
+// Reads `width` bytes at `offset` of a device, or answers 18 or 19; nothing changes.
+pub fn read(bus: Bus, device: usize, offset: usize, width: usize) -> Result<ReadAnswer, Refusal>
     ensures { result ≡ bus_read_of bus device offset width }
 {
     let count = count_on(bus.count);

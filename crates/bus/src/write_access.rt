@@ -1,18 +1,19 @@
 // A config write by device.
-ghost use Rattle.std.specs.Prelude.{◌≡◌, ◌<◌};
+ghost use Rattle.std.specs.Prelude.{◌≡◌, ◌<◌, Ok};
 ghost use Rattle.address.specs.Layout.{config_space_size, bar_count};
 ghost use Rattle.address.specs.Limits.{function_room};
 ghost use Rattle.address.specs.Check.{access_of};
-ghost use Rattle.bus.specs.Access.{bus_write_number, bus_done, written_as, put_on, settled_on, absent_write, written_on, bus_write_of};
+ghost use Rattle.bus.specs.Access.{refusal_of, refused_at, written_as, put_on, settled_on, absent_write, written_on, bus_write_of};
 
 use crate::ranges::accepted_at;
 use crate::state::{Bus, count_on, index_of};
 use address::check;
 use address::config_layout::CONFIG_SPACE_SIZE;
 use capability::{EffectHit, Snapshot};
-use config::{FunctionState, WriteAnswer, finish_at, no_body};
+use config::{FunctionState, WriteAnswer, finish_at};
+use refusal::Refusal;
 
-// What a write did: stored, dropped, started a probe, moved a BAR or kept it where it was (the committed address is given), touched an effect; or refusal 18, 19, or 20 with the device.
+// What a write did: stored, dropped, started a probe, moved a BAR or kept it where it was (the committed address is given), or is inside an effect, with the copy of the live body.
 #[derive(Clone, Copy)]
 pub enum BusWriteAnswer {
     Stored,
@@ -20,69 +21,61 @@ pub enum BusWriteAnswer {
     Probing(usize),
     Moved { slot: usize, address: u64 },
     Kept { slot: usize, address: u64 },
-    Effect(EffectHit),
+    Effect { hit: EffectHit, body: Snapshot },
+}
+
+// Refusal 18 or 19, or 20 with the device.
+#[derive(Clone, Copy, Debug, PartialEq, Eq)]
+pub enum WriteRefusal {
     BadAccess,
-    BadEffect,
+    BadTouch,
     Exhausted(u8),
 }
 
-// The answer, and for an effect the copy of the live body; else that of none.
-#[derive(Clone, Copy)]
-pub struct BusWriteReply {
-    pub answer: BusWriteAnswer,
-    pub body: Snapshot,
-}
+impl From<WriteRefusal> for Refusal {
+    ghost from_gives = { λ refused refusal. refusal ≡ refusal_of refused };
 
-#[derive(Clone, Copy)]
-pub struct BusWriteDone {
-    pub reply: BusWriteReply,
-    pub bus: Bus,
-}
-
-impl BusWriteAnswer {
-    // Document 01's number for the answer.
-    pub fn number(self) -> u8
-        ensures { result ≡ bus_write_number self }
-    {
-        match self {
-            BusWriteAnswer::Stored => refusal::ACCEPTED,
-            BusWriteAnswer::Dropped => refusal::ACCEPTED,
-            BusWriteAnswer::Probing(_) => refusal::ACCEPTED,
-            BusWriteAnswer::Moved {
-                slot: _,
-                address: _,
-            } => refusal::ACCEPTED,
-            BusWriteAnswer::Kept {
-                slot: _,
-                address: _,
-            } => refusal::ACCEPTED,
-            BusWriteAnswer::Effect(_) => refusal::ACCEPTED,
-            BusWriteAnswer::BadAccess => refusal::BAD_ACCESS,
-            BusWriteAnswer::BadEffect => refusal::BAD_TOUCH,
-            BusWriteAnswer::Exhausted(_) => refusal::REVISION_EXHAUSTED,
+    fn from(refused: WriteRefusal) -> Refusal {
+        match refused {
+            WriteRefusal::BadAccess => Refusal::BadAccess,
+            WriteRefusal::BadTouch => Refusal::BadTouch,
+            WriteRefusal::Exhausted(_) => Refusal::RevisionExhausted,
         }
     }
 }
 
-fn done(answer: BusWriteAnswer, body: Snapshot, bus: Bus) -> BusWriteDone
-    ensures { result ≡ bus_done answer body bus }
+// Why a function's write is refused, on the bus; a function refuses a write for no other reason.
+fn refused_at(device: u8, refusal: Refusal) -> WriteRefusal
+    ensures { result ≡ refused_at device refusal }
 {
-    let reply = BusWriteReply { answer, body };
-    BusWriteDone { reply, bus }
+    match refusal {
+        Refusal::RevisionExhausted => WriteRefusal::Exhausted(device),
+        Refusal::BadTouch => WriteRefusal::BadTouch,
+        _ => WriteRefusal::BadAccess,
+    }
+}
+
+// What it did or why it is refused, and the bus after it.
+#[derive(Clone, Copy)]
+pub struct BusWriteDone {
+    pub answer: Result<BusWriteAnswer, WriteRefusal>,
+    pub bus: Bus,
 }
 
 // What a write to one function comes to: the answer, and the function after it. The bus is changed once, at the end.
 #[derive(Clone, Copy)]
 struct Written {
-    pub reply: BusWriteReply,
+    pub answer: Result<BusWriteAnswer, WriteRefusal>,
     pub function: FunctionState,
 }
 
-fn comes_to(answer: BusWriteAnswer, body: Snapshot, function: FunctionState) -> Written
-    ensures { result ≡ written_as answer body function }
+fn comes_to(answer: BusWriteAnswer, function: FunctionState) -> Written
+    ensures { result ≡ written_as (Ok answer) function }
 {
-    let reply = BusWriteReply { answer, body };
-    Written { reply, function }
+    Written {
+        answer: Ok(answer),
+        function,
+    }
 }
 
 // The end of a relocation: the candidate is accepted, or the address stays.
@@ -94,7 +87,7 @@ fn settle(bus: Bus, k: usize, i: usize, address: u64) -> Written
     let accepted = accepted_at(bus, k, i, address);
     if accepted {
         let moved = finish_at(function, i, Some(address));
-        return comes_to(BusWriteAnswer::Moved { slot: i, address }, no_body(), moved);
+        return comes_to(BusWriteAnswer::Moved { slot: i, address }, moved);
     }
     let bar = function.bars[i];
     let kept = finish_at(function, i, None);
@@ -103,7 +96,6 @@ fn settle(bus: Bus, k: usize, i: usize, address: u64) -> Written
             slot: i,
             address: bar.address,
         },
-        no_body(),
         kept,
     )
 }
@@ -115,25 +107,20 @@ fn write_on(bus: Bus, k: usize, offset: usize, width: usize, value: u64) -> Writ
 {
     let function = bus.functions[k];
     let step = config::write(function, offset, width, value);
-    let reply = step.reply;
-    let body = reply.body;
-    let answer = reply.answer;
+    let answer = step.answer;
     match answer {
-        WriteAnswer::Stored => {
-            let state = step.state;
-            comes_to(BusWriteAnswer::Stored, body, state)
-        }
-        WriteAnswer::Probing(i) => {
-            let state = step.state;
-            comes_to(BusWriteAnswer::Probing(i), body, state)
-        }
-        WriteAnswer::Candidate { slot, address } => settle(bus, k, slot, address),
-        WriteAnswer::Effect(hit) => comes_to(BusWriteAnswer::Effect(hit), body, function),
-        WriteAnswer::BadAccess => comes_to(BusWriteAnswer::BadAccess, body, function),
-        WriteAnswer::BadEffect => comes_to(BusWriteAnswer::BadEffect, body, function),
-        WriteAnswer::Exhausted => {
-            comes_to(BusWriteAnswer::Exhausted(bus.devices[k]), body, function)
-        }
+        Ok(did) => match did {
+            WriteAnswer::Stored => comes_to(BusWriteAnswer::Stored, step.state),
+            WriteAnswer::Probing(i) => comes_to(BusWriteAnswer::Probing(i), step.state),
+            WriteAnswer::Candidate { slot, address } => settle(bus, k, slot, address),
+            WriteAnswer::Effect { hit, body } => {
+                comes_to(BusWriteAnswer::Effect { hit, body }, function)
+            }
+        },
+        Err(refusal) => Written {
+            answer: Err(refused_at(bus.devices[k], refusal)),
+            function,
+        },
     }
 }
 
@@ -141,10 +128,11 @@ fn write_on(bus: Bus, k: usize, offset: usize, width: usize, value: u64) -> Writ
 fn absent_write(bus: Bus, offset: usize, width: usize) -> BusWriteDone
     ensures { result ≡ absent_write bus (access_of config_space_size offset width) }
 {
-    match check(CONFIG_SPACE_SIZE, offset, width) {
-        Ok(_) => done(BusWriteAnswer::Dropped, no_body(), bus),
-        Err(_) => done(BusWriteAnswer::BadAccess, no_body(), bus),
-    }
+    let answer = match check(CONFIG_SPACE_SIZE, offset, width) {
+        Ok(_) => Ok(BusWriteAnswer::Dropped),
+        Err(_) => Err(WriteRefusal::BadAccess),
+    };
+    BusWriteDone { answer, bus }
 }
 
 // Writes `width` bytes of `value` at `offset` of a device.
@@ -156,11 +144,12 @@ pub fn write(bus: Bus, device: usize, offset: usize, width: usize, value: u64) -
     let k = index_of(&devices, count, device);
     if k < count {
         let step = write_on(bus, k, offset, width, value);
-        let reply = step.reply;
-        let function = step.function;
         let mut out = bus;
-        out.functions[k] = function;
-        return BusWriteDone { reply, bus: out };
+        out.functions[k] = step.function;
+        return BusWriteDone {
+            answer: step.answer,
+            bus: out,
+        };
     }
     absent_write(bus, offset, width)
 }

@@ -1,5 +1,6 @@
 -- The cases of document 01 marked P, as one statement over one list. Each question is put to the definition that the promises cite.
 use Rattle.std.specs.Prelude.{ℕ, true, false, List, [], map, ◌∷◌, length, take, Some, None, Ok, Err, Result}
+use Rattle.refusal.specs.declared.refusal.Refusal.{Refusal}
 use Rattle.refusal.specs.Number.{accepted}
 use Rattle.refusal.specs.Refusal.{number_of, answer_number}
 use Rattle.address.specs.Layout.{config_space_size}
@@ -44,7 +45,7 @@ pub data Reply : Type 0 where
   numbers_are : List ℕ → Reply
   asks_for : BarWrite → Reply
   touches : Touch → Reply
-  reads : ReadAnswer → Reply
+  reads : Result ReadAnswer Refusal → Reply
   refusal_is : ℕ → Reply
   refusal_at : ℕ → ℕ → Reply
 
@@ -67,7 +68,7 @@ answer (bodies ns) = layout_reply (layout_of config_space_size (declare none_dec
 answer (starts ns) = numbers_are (map (λ (p : PlacedCapability). p.offset.0) (take (length ns) (placed_or_nothing (layout_of config_space_size (declare none_declared ns))).capabilities))
 answer (body n) = refusal_is (answer_number (capability_of 9 n))
 answer (effect_at o w) = touch_reply (touch_of p8_placed o w false)
-answer (written o w v) = reads (read_of (write_of plain o w v).state o w).answer
+answer (written o w v) = reads (read_of (write_of plain o w v).state o w)
 answer (place aperture bars) = refusal_is (placement_number (placement_of aperture bars))
 
 infixl 20 ◌gives◌
@@ -94,7 +95,7 @@ cases =
     -- P4 Size 0x1000, committed 0x80001000, probing: word 0x9000 at lane 2 gives candidate 0x90001000.
     (write (committed_at 0x1000 0x80001000 true) 2 2 0x9000 gives asks_for (bar_write.Relocate 0x90001000)) ∷
     -- P5 Word 0xffff at 0x04 from power-on reads 0x0406.
-    (written 0x04 2 0xffff gives reads (read_answer.Value 0x0406)) ∷
+    (written 0x04 2 0xffff gives reads (Ok (read_answer.Value 0x0406))) ∷
     -- P6 Bodies 4, 0, 178 start at 0x40, 0x48, 0x4c and fit; with 179 the third is refused, 13.
     (starts (4 ∷ 0 ∷ 178 ∷ []) gives numbers_are (0x40 ∷ 0x48 ∷ 0x4c ∷ [])) ∷
     (bodies (4 ∷ 0 ∷ 178 ∷ []) gives refusal_is 0) ∷

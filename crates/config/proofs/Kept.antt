@@ -19,7 +19,8 @@ use Rattle.config.specs.Same.{Same}
 use Rattle.config.specs.Space.{space_of}
 use Rattle.config.specs.State.{bar_at, slot_at, with_bar}
 use Rattle.bar.specs.State.{no_state}
-use Rattle.config.specs.Write.{write_of, write_number, relocated_at}
+use Rattle.config.specs.Write.{write_of, relocated_at}
+use Rattle.refusal.specs.Refusal.{answer_number}
 use Rattle.config.specs.Reset.{reset_done}
 use Rattle.config.specs.declared.state.FunctionState.{FunctionState}
 use Rattle.config.proofs.WriteCases.{stored_in, write_by_lem, state_by}
@@ -73,9 +74,9 @@ unfolding space_of
 reset_same f = rw (reset_state f) (record { space = refl; power_on = refl; mask = refl; placed = refl; plans = λ i. rw (reset_bar f.bars i) })
 
 -- "18, 19, and 20 on a write, change nothing"
-pub refused_changes_nothing : (f : FunctionState) (o w v : ℕ) → (write_number (write_of f o w v).reply.answer ≡ accepted) ⊎ ((write_of f o w v).state ≡ f)
+pub refused_changes_nothing : (f : FunctionState) (o w v : ℕ) → (answer_number (write_of f o w v).answer ≡ accepted) ⊎ ((write_of f o w v).state ≡ f)
 refused_changes_nothing f o w v =
-    write_by_lem (λ d. (write_number d.reply.answer ≡ accepted) ⊎ (d.state ≡ f)) f o w v
+    write_by_lem (λ d. (answer_number d.answer ≡ accepted) ⊎ (d.state ≡ f)) f o w v
     (record { bad_access = λ e. inr refl; probing = λ a i. inl refl; candidate = λ a i x e. inl refl; effect = λ a i hit e. inl refl; bad_effect = λ a i e. inr refl; exhausts = λ a i e. inr refl; stores = λ a i u e. inl refl })
 
 -- of the BARs only the one written to can change

@@ -13,9 +13,9 @@ use Rattle.word.proofs.Stores.{stored_length, stored_out, stored_unmasked}
 use Rattle.word.proofs.Tests.{below_or_not}
 use Rattle.address.proofs.Accesses.{Aligned, access_good}
 use Rattle.capability.specs.Touch.{touch_of}
-use Rattle.config.specs.Read.{read_reply, read_of}
+use Rattle.config.specs.Read.{read_of}
 use Rattle.config.specs.Space.{space_of}
-use Rattle.config.specs.State.{in_bar, no_body}
+use Rattle.config.specs.State.{in_bar}
 use Rattle.config.specs.Write.{write_done, store_of, write_of}
 use Rattle.config.specs.declared.read_step.ReadAnswer.TheVariants.{Value}
 use Rattle.config.specs.declared.state.FunctionState.{FunctionState}
@@ -25,7 +25,7 @@ use Rattle.config.proofs.Reading.{read_elsewhere}
 use Rattle.config.proofs.Writing.{write_elsewhere, store_kept}
 
 module _ (f : FunctionState) (o w : ℕ) (a : Aligned (space_of f) o w) (e : in_bar f.bars o ≡ false) where
-  pub plain_read : touch_of f.placed o w false ≡ Ok None → read_of f o w ≡ read_reply (Value (read_at f.live o w)) no_body
+  pub plain_read : touch_of f.placed o w false ≡ Ok None → read_of f o w ≡ Ok (Value (read_at f.live o w))
   unfolding read_of
   plain_read t = rw (access_good (space_of f) o w a) (read_elsewhere f o w e ∙ rw t)
 
@@ -45,7 +45,7 @@ module _ (f : FunctionState) (o w : ℕ) (a : Aligned (space_of f) o w) (e : in_
           stored_unmasked f.mask f.live o w v j l (bytes j) (rw z at (masks (j - o) (omega arith))))
           (λ (q : o + w ≤ j). stored_out f.mask f.live o w v j l (inr q)) (below_or_not j (o + w))) (below_or_not j o))
 
-      pub unmasked_write : write_of f o w v ≡ write_done Stored no_body f
+      pub unmasked_write : write_of f o w v ≡ write_done (Ok Stored) f
       unmasked_write =
           let q = stored_nothing in
           plain_write ∙ store_kept f o w v (rw q (same_not_exhausted f.live f.live f.revision refl)) ∙ rw (q, same_revision f.live f.live f.revision refl)

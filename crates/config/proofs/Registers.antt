@@ -15,11 +15,12 @@ use Rattle.bar.specs.Range.{four_gib}
 use Rattle.bar.specs.Register.{Address}
 use Rattle.bar.specs.State.{shown, probed}
 use Rattle.bar.proofs.States.{ones_probe, address_relocates}
-use Rattle.config.specs.Read.{read_reply, register_bytes, read_of}
+use Rattle.config.specs.Read.{register_bytes, read_of}
 use Rattle.config.specs.Space.{space_of}
-use Rattle.config.specs.State.{bar_at, slot_at, in_bar, with_bar, no_body}
+use Rattle.config.specs.State.{bar_at, slot_at, in_bar, with_bar}
 use Rattle.config.specs.Write.{write_done, write_of}
 use Rattle.config.specs.declared.read_step.ReadAnswer.TheVariants.{Value}
+use Rattle.std.proofs.Common.{Ok}
 use Rattle.config.specs.declared.state.FunctionState.{FunctionState}
 use Rattle.config.specs.declared.write_step.WriteAnswer.TheVariants.{Probing, Candidate}
 use Rattle.config.proofs.Reading.{read_register}
@@ -52,18 +53,18 @@ module _ (f : FunctionState) (i : ℕ) (h : i < bar_count) where
     lane : register_of (slot i) % bar_register_size ≡ 0
     lane = omega arith
 
-    pub register_read : read_of f (register_of (slot i)) 4 ≡ read_reply (Value (shown (bar_at f.bars i) % four_gib)) no_body
+    pub register_read : read_of f (register_of (slot i)) 4 ≡ Ok (Value (shown (bar_at f.bars i) % four_gib))
     unfolding read_of register_bytes
     register_read =
         rw (access_good (space_of f) (register_of (slot i)) 4 register_aligned) (read_register f (register_of (slot i)) 4 register_held ∙ rw (register_slot, lane, dword_back (shown (bar_at f.bars i))))
 
-    pub register_ones : write_of f (register_of (slot i)) 4 0xffffffff ≡ write_done (Probing i) no_body (with_bar f i (probed (bar_at f.bars i)))
+    pub register_ones : write_of f (register_of (slot i)) 4 0xffffffff ≡ write_done (Ok (Probing i)) (with_bar f i (probed (bar_at f.bars i)))
     unfolding write_of
     register_ones =
         rw (access_good (space_of f) (register_of (slot i)) 4 register_aligned) (write_register f (register_of (slot i)) 4 0xffffffff register_held ∙
         step_probe f (register_of (slot i)) 4 0xffffffff (rw (register_slot, lane) (ones_probe (bar_at f.bars i))) ∙ rw register_slot)
 
-    pub register_address : (a : ℕ) → Address a → write_of f (register_of (slot i)) 4 a ≡ write_done (Candidate i a) no_body f
+    pub register_address : (a : ℕ) → Address a → write_of f (register_of (slot i)) 4 a ≡ write_done (Ok (Candidate i a)) f
     unfolding write_of
     register_address a t =
         rw (access_good (space_of f) (register_of (slot i)) 4 register_aligned) (write_register f (register_of (slot i)) 4 a register_held ∙

@@ -21,11 +21,11 @@ use Rattle.capability.specs.Snapshot.{snapshot_of}
 use Rattle.capability.specs.declared.effect_access.EffectHit.{EffectHit}
 use Rattle.capability.proofs.Touches.{touch_refusal}
 use Rattle.config.specs.Space.{space_of}
-use Rattle.config.specs.State.{bar_at, slot_at, in_bar, no_body, with_live, with_bar}
+use Rattle.config.specs.State.{bar_at, slot_at, in_bar, with_live, with_bar}
 use Rattle.config.specs.Command.{revision_after, exhausted}
 use Rattle.config.specs.Write.{write_done, store_of, bar_asked, bar_step, write_touched, write_good, write_checked, write_of}
 use Rattle.config.specs.declared.state.FunctionState.{FunctionState}
-use Rattle.config.specs.declared.write_step.WriteAnswer.TheVariants.{Stored, Probing, Candidate, Effect, BadAccess, BadEffect, Exhausted}
+use Rattle.config.specs.declared.write_step.WriteAnswer.TheVariants.{Stored, Probing, Candidate, Effect}
 use Rattle.config.specs.declared.write_step.WriteDone.{WriteDone}
 use Rattle.config.proofs.Writing.{write_register, write_elsewhere, store_kept, store_exhausted}
 use Rattle.refusal.specs.declared.refusal.Refusal.TheVariants as refusal
@@ -37,13 +37,13 @@ stored_in f o w v = stored f.mask f.live o w v
 
 -- what has to be shown of a write: one clause a case
 pub record Shown (P : WriteDone → Type 0) (f : FunctionState) (o w v : ℕ) : Type 0 where
-  pub bad_access : access_of (space_of f) o w ≡ Err refusal.BadAccess → P (write_done BadAccess no_body f)
-  pub probing : Aligned (space_of f) o w → in_bar f.bars o ≡ true → P (write_done (Probing (slot_at o)) no_body (with_bar f (slot_at o) (probed (bar_at f.bars (slot_at o)))))
-  pub candidate : Aligned (space_of f) o w → in_bar f.bars o ≡ true → (a : ℕ) → asks (bar_at f.bars (slot_at o)) (o % bar_register_size) w v ≡ bar_write.Relocate a → P (write_done (Candidate (slot_at o) a) no_body f)
-  pub effect : Aligned (space_of f) o w → in_bar f.bars o ≡ false → (hit : EffectHit) → touch_of f.placed o w true ≡ Ok (Some hit) → P (write_done (Effect hit) (snapshot_of f.placed f.live hit.region.capability) f)
-  pub bad_effect : Aligned (space_of f) o w → in_bar f.bars o ≡ false → touch_of f.placed o w true ≡ Err refusal.BadTouch → P (write_done BadEffect no_body f)
-  pub exhausts : Aligned (space_of f) o w → in_bar f.bars o ≡ false → exhausted f.live (stored_in f o w v) f.revision ≡ true → P (write_done Exhausted no_body f)
-  pub stores : Aligned (space_of f) o w → in_bar f.bars o ≡ false → touch_of f.placed o w true ≡ Ok None → exhausted f.live (stored_in f o w v) f.revision ≡ false → P (write_done Stored no_body (with_live f (stored_in f o w v) (revision_after f.live (stored_in f o w v) f.revision)))
+  pub bad_access : access_of (space_of f) o w ≡ Err refusal.BadAccess → P (write_done (Err refusal.BadAccess) f)
+  pub probing : Aligned (space_of f) o w → in_bar f.bars o ≡ true → P (write_done (Ok (Probing (slot_at o))) (with_bar f (slot_at o) (probed (bar_at f.bars (slot_at o)))))
+  pub candidate : Aligned (space_of f) o w → in_bar f.bars o ≡ true → (a : ℕ) → asks (bar_at f.bars (slot_at o)) (o % bar_register_size) w v ≡ bar_write.Relocate a → P (write_done (Ok (Candidate (slot_at o) a)) f)
+  pub effect : Aligned (space_of f) o w → in_bar f.bars o ≡ false → (hit : EffectHit) → touch_of f.placed o w true ≡ Ok (Some hit) → P (write_done (Ok (Effect hit (snapshot_of f.placed f.live hit.region.capability))) f)
+  pub bad_effect : Aligned (space_of f) o w → in_bar f.bars o ≡ false → touch_of f.placed o w true ≡ Err refusal.BadTouch → P (write_done (Err refusal.BadTouch) f)
+  pub exhausts : Aligned (space_of f) o w → in_bar f.bars o ≡ false → exhausted f.live (stored_in f o w v) f.revision ≡ true → P (write_done (Err refusal.RevisionExhausted) f)
+  pub stores : Aligned (space_of f) o w → in_bar f.bars o ≡ false → touch_of f.placed o w true ≡ Ok None → exhausted f.live (stored_in f o w v) f.revision ≡ false → P (write_done (Ok Stored) (with_live f (stored_in f o w v) (revision_after f.live (stored_in f o w v) f.revision)))
 
 module _ (P : WriteDone → Type 0) (f : FunctionState) (o w v : ℕ) (s : Shown P f o w v) where
   asked : Aligned (space_of f) o w → in_bar f.bars o ≡ true → (b : BarWrite) → asks (bar_at f.bars (slot_at o)) (o % bar_register_size) w v ≡ b → P (bar_asked f (slot_at o) b)
@@ -63,7 +63,7 @@ module _ (P : WriteDone → Type 0) (f : FunctionState) (o w v : ℕ) (s : Shown
   touched : Aligned (space_of f) o w → in_bar f.bars o ≡ false → (t : Touch) → touch_of f.placed o w true ≡ t → P (write_touched f o w v t)
   touched a i (Ok None) e = at_store a i e
   touched a i (Ok (Some hit)) e = s.effect a i hit e
-  touched a i (Err r) e = s.bad_effect a i (rw (touch_refusal f.placed o w true r e) at e)
+  touched a i (Err r) e = let q = touch_refusal f.placed o w true r e in rw q (s.bad_effect a i (rw q at e))
 
   at_good : Aligned (space_of f) o w → P (write_good f o w v)
   at_good a =
@@ -72,7 +72,7 @@ module _ (P : WriteDone → Type 0) (f : FunctionState) (o w v : ℕ) (s : Shown
       (true_or_false (in_bar f.bars o))
 
   checked : (x : Result Access Refusal) → access_of (space_of f) o w ≡ x → P (write_checked f v x)
-  checked (Err r) e = s.bad_access (rw (access_err (space_of f) o w r e) at e)
+  checked (Err r) e = let q = access_err (space_of f) o w r e in rw q (s.bad_access (rw q at e))
   checked (Ok a) e = let r = access_is (space_of f) o w a.offset a.width e in rw (r.1, r.2) (at_good r.0)
 
   -- every write is one of the cases

@@ -1,6 +1,5 @@
 -- A write to config space (document 01, "Access and reset"), but for the acceptance of a candidate, which the bus decides.
 use Rattle.std.specs.Prelude.{ℕ, ◌%◌, true, cond, Some, None, Ok, Err, Option, Result}
-use Rattle.refusal.specs.Number as refusal
 use Rattle.word.specs.Store.{stored}
 use Rattle.address.specs.Layout.{bar_register_size}
 use Rattle.address.specs.Kinds.{index_of}
@@ -12,40 +11,30 @@ use Rattle.bar.specs.declared.bar_state.BarWrite.{BarWrite}
 use Rattle.bar.specs.declared.bar_state.BarWrite.TheVariants as bar_write
 use Rattle.capability.specs.Touch.{touch_of, Touch}
 use Rattle.capability.specs.Snapshot.{snapshot_of}
-use Rattle.capability.specs.declared.snapshot.Snapshot.{Snapshot}
-use Rattle.config.specs.State.{bar_at, slot_at, in_bar, no_body, with_live, with_bar}
+use Rattle.config.specs.State.{bar_at, slot_at, in_bar, with_live, with_bar}
 use Rattle.config.specs.Space.{space_of}
 use Rattle.config.specs.Command.{revision_after, exhausted}
 use Rattle.config.specs.declared.state.FunctionState.{FunctionState}
 use Rattle.config.specs.declared.write_step.WriteAnswer.{WriteAnswer}
-use Rattle.config.specs.declared.write_step.WriteAnswer.TheVariants.{Stored, Probing, Candidate, Effect, BadAccess, BadEffect, Exhausted}
+use Rattle.config.specs.declared.write_step.WriteAnswer.TheVariants.{Stored, Probing, Candidate, Effect}
 use Rattle.config.specs.declared.write_step.WriteDone.{WriteDone}
 use Rattle.refusal.specs.declared.refusal.Refusal.{Refusal}
+use Rattle.refusal.specs.declared.refusal.Refusal.TheVariants.{RevisionExhausted}
 
--- document 01's number for each answer
-abbrev pub write_number : WriteAnswer → ℕ
-write_number Stored = refusal.accepted
-write_number (Probing slot) = refusal.accepted
-write_number (Candidate slot address) = refusal.accepted
-write_number (Effect hit) = refusal.accepted
-write_number BadAccess = refusal.bad_access
-write_number BadEffect = refusal.bad_touch
-write_number Exhausted = refusal.exhausted
-
-abbrev pub write_done : WriteAnswer → Snapshot → FunctionState → WriteDone
-write_done a b f = record { reply = record { answer = a; body = b }; state = f }
+abbrev pub write_done : Result WriteAnswer Refusal → FunctionState → WriteDone
+write_done a f = record { answer = a; state = f }
 
 -- "any other write stores value bits where the mask is 1"; at 20 nothing changes
 unfoldable pub store_of : FunctionState → ℕ → ℕ → ℕ → WriteDone
 store_of f o w v =
-    cond (exhausted f.live (stored f.mask f.live o w v) f.revision) (write_done Exhausted no_body f)
-    (write_done Stored no_body
+    cond (exhausted f.live (stored f.mask f.live o w v) f.revision) (write_done (Err RevisionExhausted) f)
+    (write_done (Ok Stored)
     (with_live f (stored f.mask f.live o w v) (revision_after f.live (stored f.mask f.live o w v) f.revision)))
 
 -- what a write to the register of slot i asks: a probe starts at once, a candidate is put to the bus and nothing changes yet
 abbrev pub bar_asked : FunctionState → ℕ → BarWrite → WriteDone
-bar_asked f i bar_write.Probe = write_done (Probing i) no_body (with_bar f i (probed (bar_at f.bars i)))
-bar_asked f i (bar_write.Relocate a) = write_done (Candidate i a) no_body f
+bar_asked f i bar_write.Probe = write_done (Ok (Probing i)) (with_bar f i (probed (bar_at f.bars i)))
+bar_asked f i (bar_write.Relocate a) = write_done (Ok (Candidate i a)) f
 
 -- "A write merges its bytes into the committed dword"
 unfoldable pub bar_step : FunctionState → ℕ → ℕ → ℕ → WriteDone
@@ -53,8 +42,8 @@ bar_step f o w v = bar_asked f (slot_at o) (asks (bar_at f.bars (slot_at o)) (o 
 
 abbrev pub write_touched : FunctionState → ℕ → ℕ → ℕ → Touch → WriteDone
 write_touched f o w v (Ok None) = store_of f o w v
-write_touched f o w v (Ok (Some hit)) = write_done (Effect hit) (snapshot_of f.placed f.live hit.region.capability) f
-write_touched f o w v (Err r) = write_done BadEffect no_body f
+write_touched f o w v (Ok (Some hit)) = write_done (Ok (Effect hit (snapshot_of f.placed f.live hit.region.capability))) f
+write_touched f o w v (Err r) = write_done (Err r) f
 
 -- a checked write
 unfoldable pub write_good : FunctionState → ℕ → ℕ → ℕ → WriteDone
@@ -63,7 +52,7 @@ write_good f o w v =
 
 -- "Check 18 first."
 abbrev pub write_checked : FunctionState → ℕ → Result Access Refusal → WriteDone
-write_checked f v (Err r) = write_done BadAccess no_body f
+write_checked f v (Err r) = write_done (Err r) f
 write_checked f v (Ok a) = write_good f a.offset.0 a.width v
 
 unfoldable pub write_of : FunctionState → ℕ → ℕ → ℕ → WriteDone

@@ -53,7 +53,9 @@ fn byte_ok(space: u16, placed: Placed, offset: ConfigOffset) -> bool
 
 // Refusal 9: the first config byte that may not stand where it is.
 pub fn check_config_bytes(
-    space: u16, contents: Contents, placed: Placed,
+    space: u16,
+    contents: Contents,
+    placed: Placed,
 ) -> Result<(), BadConfigByte>
     ensures { result ≡ byte_check_of space contents placed }
 {

@@ -3,7 +3,8 @@ ghost use Rattle.std.specs.Prelude.{◌≡◌};
 ghost use Rattle.config.specs.Write.{write_of};
 
 use crate::state::FunctionState;
-use crate::write_step::{WriteReply, write};
+use crate::write_step::{WriteAnswer, write};
+use refusal::Refusal;
 
 // `width` bytes of `value`, to be written at `offset`.
 #[repr(C)]
@@ -15,10 +16,10 @@ pub struct ConfigWrite {
 }
 
 // Writes to a lent state; a candidate is put to the bus, as `write` does.
-pub fn write_in_place(state: &mut FunctionState, w: ConfigWrite) -> WriteReply
-    ensures { (result ≡ (write_of state.old w.offset w.width w.value).reply) × (state.new ≡ (write_of state.old w.offset w.width w.value).state) }
+pub fn write_in_place(state: &mut FunctionState, w: ConfigWrite) -> Result<WriteAnswer, Refusal>
+    ensures { (result ≡ (write_of state.old w.offset w.width w.value).answer) × (state.new ≡ (write_of state.old w.offset w.width w.value).state) }
 {
     let d = write(*state, w.offset, w.width, w.value);
     *state = d.state;
-    d.reply
+    d.answer
 }

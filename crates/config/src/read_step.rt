@@ -1,41 +1,18 @@
 // A read of config space.
 ghost use Rattle.std.specs.Prelude.{◌≡◌};
-ghost use Rattle.config.specs.Read.{read_number, register_bytes, read_touched, read_good, read_of};
+ghost use Rattle.config.specs.Read.{register_bytes, read_touched, read_good, read_of};
 
-use crate::state::{FunctionState, bar_at, in_bar, no_body, slot_at, space_of};
+use crate::state::{FunctionState, bar_at, in_bar, slot_at, space_of};
 use address::config_layout::CONFIG_BAR_REGISTER_SIZE;
 use address::{ConfigOffset, check};
 use capability::{EffectHit, Snapshot, effect_for_access, snapshot_of};
 use refusal::Refusal;
 
-// What a read gives: a value, or the effect that it is inside; or refusal 18 or 19.
+// What a read gives: a value, or the effect that it is inside, with the copy of the live body.
 #[derive(Clone, Copy)]
 pub enum ReadAnswer {
     Value(u64),
-    Effect(EffectHit),
-    BadAccess,
-    BadEffect,
-}
-
-impl ReadAnswer {
-    // Document 01's number for the answer.
-    pub fn number(self) -> u8
-        ensures { result ≡ read_number self }
-    {
-        match self {
-            ReadAnswer::Value(_) => refusal::ACCEPTED,
-            ReadAnswer::Effect(_) => refusal::ACCEPTED,
-            ReadAnswer::BadAccess => refusal::BAD_ACCESS,
-            ReadAnswer::BadEffect => refusal::BAD_TOUCH,
-        }
-    }
-}
-
-// The answer, and for an effect the copy of the live body; else that of none.
-#[derive(Clone, Copy)]
-pub struct ReadReply {
-    pub answer: ReadAnswer,
-    pub body: Snapshot,
+    Effect { hit: EffectHit, body: Snapshot },
 }
 
 // The bytes asked of what a BAR's register shows.
@@ -56,57 +33,43 @@ fn read_touched(
     offset: usize,
     width: usize,
     touch: Result<Option<EffectHit>, Refusal>,
-) -> ReadReply
+) -> Result<ReadAnswer, Refusal>
     ensures { result ≡ read_touched state offset width touch }
 {
     let live = state.live;
-    match touch {
-        Ok(None) => ReadReply {
-            answer: ReadAnswer::Value(word::read(&live, offset, width)),
-            body: no_body(),
-        },
-        Ok(Some(hit)) => {
+    match touch? {
+        None => Ok(ReadAnswer::Value(word::read(&live, offset, width))),
+        Some(hit) => {
             let placed = state.placed;
             let body = snapshot_of(placed, &live, hit.region.capability as usize);
-            ReadReply {
-                answer: ReadAnswer::Effect(hit),
-                body,
-            }
+            Ok(ReadAnswer::Effect { hit, body })
         }
-        Err(_) => ReadReply {
-            answer: ReadAnswer::BadEffect,
-            body: no_body(),
-        },
     }
 }
 
 // A checked read.
-fn read_good(state: FunctionState, offset: ConfigOffset, width: usize) -> ReadReply
+fn read_good(
+    state: FunctionState,
+    offset: ConfigOffset,
+    width: usize,
+) -> Result<ReadAnswer, Refusal>
     ensures { result ≡ read_good state offset.0 width }
 {
     let at = offset.value() as usize;
     let bars = state.bars;
     let register = in_bar(bars, at);
     if register {
-        return ReadReply {
-            answer: ReadAnswer::Value(register_bytes(state, at, width)),
-            body: no_body(),
-        };
+        return Ok(ReadAnswer::Value(register_bytes(state, at, width)));
     }
     let placed = state.placed;
     let touch = effect_for_access(placed, offset, width, false);
     read_touched(state, at, width, touch)
 }
 
-// Reads `width` bytes at `offset`; nothing changes.
-pub fn read(state: FunctionState, offset: usize, width: usize) -> ReadReply
+// Reads `width` bytes at `offset`, or answers 18 or 19; nothing changes.
+pub fn read(state: FunctionState, offset: usize, width: usize) -> Result<ReadAnswer, Refusal>
     ensures { result ≡ read_of state offset width }
 {
-    match check(space_of(state), offset, width) {
-        Ok(access) => read_good(state, access.offset, access.width),
-        Err(_) => ReadReply {
-            answer: ReadAnswer::BadAccess,
-            body: no_body(),
-        },
-    }
+    let access = check(space_of(state), offset, width)?;
+    read_good(state, access.offset, access.width)
 }

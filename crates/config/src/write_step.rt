@@ -1,69 +1,47 @@
 // A write to config space, in two steps where it asks for a relocation.
-ghost use Rattle.std.specs.Prelude.{◌≡◌};
-ghost use Rattle.config.specs.State.{no_body};
-ghost use Rattle.config.specs.Write.{write_number, write_done, store_of, bar_step, write_touched, write_good, write_of, relocated_in, relocated_at};
+ghost use Rattle.std.specs.Prelude.{◌≡◌, Ok, Err};
+ghost use Rattle.config.specs.Write.{write_done, store_of, bar_step, write_touched, write_good, write_of, relocated_in, relocated_at};
 
-use crate::state::{FunctionState, bar_at, in_bar, no_body, slot_at, space_of, with_bar};
+use crate::state::{FunctionState, bar_at, in_bar, slot_at, space_of, with_bar};
 use crate::store_leaf::store_live;
 use address::{ConfigOffset, Slot, check, config_layout};
 use bar::BarWrite;
 use capability::{EffectHit, Snapshot, effect_for_access, snapshot_of};
 use refusal::Refusal;
 
-// What a write did: stored, started a probe, asks for a candidate (nothing is changed until the bus answers), touched an effect; or refusal 18, 19 or 20.
+// What a write did: stored, started a probe, asks for a candidate (nothing is changed until the bus answers), or is inside an effect, with the copy of the live body.
 #[derive(Clone, Copy)]
 pub enum WriteAnswer {
     Stored,
     Probing(usize),
     Candidate { slot: usize, address: u64 },
-    Effect(EffectHit),
-    BadAccess,
-    BadEffect,
-    Exhausted,
+    Effect { hit: EffectHit, body: Snapshot },
 }
 
-impl WriteAnswer {
-    // Document 01's number for the answer.
-    pub fn number(self) -> u8
-        ensures { result ≡ write_number self }
-    {
-        match self {
-            WriteAnswer::Stored => refusal::ACCEPTED,
-            WriteAnswer::Probing(_) => refusal::ACCEPTED,
-            WriteAnswer::Candidate {
-                slot: _,
-                address: _,
-            } => refusal::ACCEPTED,
-            WriteAnswer::Effect(_) => refusal::ACCEPTED,
-            WriteAnswer::BadAccess => refusal::BAD_ACCESS,
-            WriteAnswer::BadEffect => refusal::BAD_TOUCH,
-            WriteAnswer::Exhausted => refusal::REVISION_EXHAUSTED,
-        }
-    }
-}
-
-// The answer, and for an effect the copy of the live body; else that of none.
-#[derive(Clone, Copy)]
-pub struct WriteReply {
-    pub answer: WriteAnswer,
-    pub body: Snapshot,
-}
-
+// What it did or refusal 18, 19 or 20, and the state after it.
 #[derive(Clone, Copy)]
 pub struct WriteDone {
-    pub reply: WriteReply,
+    pub answer: Result<WriteAnswer, Refusal>,
     pub state: FunctionState,
 }
 
-// An answer without a body.
-fn plain(answer: WriteAnswer, state: FunctionState) -> WriteDone
-    ensures { result ≡ write_done answer no_body state }
+fn did(answer: WriteAnswer, state: FunctionState) -> WriteDone
+    ensures { result ≡ write_done (Ok answer) state }
 {
-    let reply = WriteReply {
-        answer,
-        body: no_body(),
-    };
-    WriteDone { reply, state }
+    WriteDone {
+        answer: Ok(answer),
+        state,
+    }
+}
+
+// A refused write changes nothing.
+fn refused(refusal: Refusal, state: FunctionState) -> WriteDone
+    ensures { result ≡ write_done (Err refusal) state }
+{
+    WriteDone {
+        answer: Err(refusal),
+        state,
+    }
 }
 
 // The store, by value over the leaf.
@@ -78,9 +56,9 @@ fn store_step(state: FunctionState, offset: usize, width: usize, value: u64) -> 
         let mut out = state;
         out.live = live;
         out.revision = revision;
-        return plain(WriteAnswer::Stored, out);
+        return did(WriteAnswer::Stored, out);
     }
-    plain(WriteAnswer::Exhausted, state)
+    refused(Refusal::RevisionExhausted, state)
 }
 
 // A write to the register of a BAR.
@@ -95,8 +73,8 @@ fn bar_step(state: FunctionState, offset: usize, width: usize, value: u64) -> Wr
         width,
         value,
     ) {
-        BarWrite::Probe => plain(WriteAnswer::Probing(i), with_bar(state, i, bar.set_probe())),
-        BarWrite::Relocate(address) => plain(WriteAnswer::Candidate { slot: i, address }, state),
+        BarWrite::Probe => did(WriteAnswer::Probing(i), with_bar(state, i, bar.set_probe())),
+        BarWrite::Relocate(address) => did(WriteAnswer::Candidate { slot: i, address }, state),
     }
 }
 
@@ -116,13 +94,9 @@ fn write_touched(
             let live = state.live;
             let placed = state.placed;
             let body = snapshot_of(placed, &live, hit.region.capability as usize);
-            let reply = WriteReply {
-                answer: WriteAnswer::Effect(hit),
-                body,
-            };
-            WriteDone { reply, state }
+            did(WriteAnswer::Effect { hit, body }, state)
         }
-        Err(_) => plain(WriteAnswer::BadEffect, state),
+        Err(refusal) => refused(refusal, state),
     }
 }
 
@@ -147,7 +121,7 @@ pub fn write(state: FunctionState, offset: usize, width: usize, value: u64) -> W
 {
     match check(space_of(state), offset, width) {
         Ok(access) => write_good(state, access.offset, access.width, value),
-        Err(_) => plain(WriteAnswer::BadAccess, state),
+        Err(refusal) => refused(refusal, state),
     }
 }
 

@@ -1,20 +1,19 @@
 -- The answers to reads, writes, lookups and resets, as text (the console's table of commands).
-use Rattle.std.specs.Prelude.{ℕ, ◌+◌, ◌*◌, min, List, [], ◌∷◌, ◌++◌}
+use Rattle.std.specs.Prelude.{ℕ, ◌+◌, ◌*◌, min, Option, None, Some, Result, Ok, Err, List, [], ◌∷◌, ◌++◌}
 use Rattle.refusal.specs.Number as refusal
+use Rattle.refusal.specs.Refusal.{number_of}
+use Rattle.refusal.specs.declared.refusal.Refusal.{Refusal}
 use Rattle.text.specs.Numeral.{hex_of, decimal_room, decimal_of}
 use Rattle.text.specs.Line.{refused_word, dot, ended, column}
 use Rattle.address.specs.Check.{most_width}
-use Rattle.capability.specs.declared.snapshot.Snapshot.{Snapshot}
 use Rattle.config.specs.declared.read_step.ReadAnswer.{ReadAnswer}
 use Rattle.config.specs.declared.read_step.ReadAnswer.TheVariants as read_answer
-use Rattle.config.specs.declared.read_step.ReadReply.{ReadReply}
 use Rattle.bus.specs.declared.write_access.BusWriteAnswer.{BusWriteAnswer}
 use Rattle.bus.specs.declared.write_access.BusWriteAnswer.TheVariants as write_answer
-use Rattle.bus.specs.declared.write_access.BusWriteReply.{BusWriteReply}
-use Rattle.bus.specs.declared.memory_lookup.LookupAnswer.{LookupAnswer}
-use Rattle.bus.specs.declared.memory_lookup.LookupAnswer.TheVariants.{Hit, Miss, BadWidth}
-use Rattle.bus.specs.declared.bus_reset.BusResetAnswer.{BusResetAnswer}
-use Rattle.bus.specs.declared.bus_reset.BusResetAnswer.TheVariants as reset_answer
+use Rattle.bus.specs.declared.write_access.WriteRefusal.{WriteRefusal}
+use Rattle.bus.specs.declared.write_access.WriteRefusal.TheVariants as write_refused
+use Rattle.bus.specs.declared.memory_lookup.Hit.{Hit}
+use Rattle.bus.specs.declared.bus_reset.Exhausted.{Exhausted}
 use Rattle.dialogue.specs.Effect.{effect_text, effect_room}
 
 -- "value ", "probing", "moved", "kept", "hit", in ASCII
@@ -71,14 +70,10 @@ exhausted_room = 8 + decimal_room + 3 + 1
 abbrev pub access_room : ℕ
 access_room = effect_room
 
-abbrev pub read_answer_text : ℕ → Snapshot → ReadAnswer → List ℕ
-read_answer_text width body (read_answer.Value v) = value_text width v
-read_answer_text width body (read_answer.Effect hit) = effect_text hit body
-read_answer_text width body read_answer.BadAccess = refused_text refusal.bad_access
-read_answer_text width body read_answer.BadEffect = refused_text refusal.bad_touch
-
-unfoldable pub read_text : ℕ → ReadReply → List ℕ
-read_text width reply = read_answer_text width reply.body reply.answer
+abbrev pub read_text : ℕ → Result ReadAnswer Refusal → List ℕ
+read_text width (Ok (read_answer.Value v)) = value_text width v
+read_text width (Ok (read_answer.Effect hit body)) = effect_text hit body
+read_text width (Err r) = refused_text (number_of r)
 
 -- "probing SLOT"
 unfoldable pub probing_text : ℕ → List ℕ
@@ -95,19 +90,23 @@ placed_text word slot address = word ++ column 1 slot ++ column 8 address ++ end
 abbrev pub placed_room : ℕ
 placed_room = 2 + 9 + 1
 
-abbrev pub write_answer_text : Snapshot → BusWriteAnswer → List ℕ
-write_answer_text body write_answer.Stored = stored_line
-write_answer_text body write_answer.Dropped = dropped_line
-write_answer_text body (write_answer.Probing slot) = probing_text slot
-write_answer_text body (write_answer.Moved slot address) = placed_text moved_word slot address
-write_answer_text body (write_answer.Kept slot address) = placed_text kept_word slot address
-write_answer_text body (write_answer.Effect hit) = effect_text hit body
-write_answer_text body write_answer.BadAccess = refused_text refusal.bad_access
-write_answer_text body write_answer.BadEffect = refused_text refusal.bad_touch
-write_answer_text body (write_answer.Exhausted device) = exhausted_text device
+abbrev pub did_text : BusWriteAnswer → List ℕ
+did_text write_answer.Stored = stored_line
+did_text write_answer.Dropped = dropped_line
+did_text (write_answer.Probing slot) = probing_text slot
+did_text (write_answer.Moved slot address) = placed_text moved_word slot address
+did_text (write_answer.Kept slot address) = placed_text kept_word slot address
+did_text (write_answer.Effect hit body) = effect_text hit body
 
-unfoldable pub write_text : BusWriteReply → List ℕ
-write_text reply = write_answer_text reply.body reply.answer
+-- "refused N", with the device where it is 20
+abbrev pub write_refused_text : WriteRefusal → List ℕ
+write_refused_text write_refused.BadAccess = refused_text refusal.bad_access
+write_refused_text write_refused.BadTouch = refused_text refusal.bad_touch
+write_refused_text (write_refused.Exhausted device) = exhausted_text device
+
+abbrev pub write_text : Result BusWriteAnswer WriteRefusal → List ℕ
+write_text (Ok a) = did_text a
+write_text (Err r) = write_refused_text r
 
 -- "hit DD.S OFFSET8"
 unfoldable pub hit_text : ℕ → ℕ → ℕ → List ℕ
@@ -116,11 +115,11 @@ hit_text device slot offset = hit_word ++ column 2 device ++ dot ++ hex_of 1 slo
 abbrev pub hit_room : ℕ
 hit_room = 3 + 3 + 1 + 1 + 9 + 1
 
-abbrev pub lookup_text : LookupAnswer → List ℕ
-lookup_text (Hit device slot offset) = hit_text device slot offset
-lookup_text Miss = miss_line
-lookup_text BadWidth = refused_text refusal.bad_access
+abbrev pub lookup_text : Result (Option Hit) Refusal → List ℕ
+lookup_text (Ok (Some h)) = hit_text h.device h.slot h.offset
+lookup_text (Ok None) = miss_line
+lookup_text (Err r) = refused_text (number_of r)
 
-abbrev pub reset_text : BusResetAnswer → List ℕ
-reset_text reset_answer.Restored = reset_line
-reset_text (reset_answer.Exhausted device) = exhausted_text device
+abbrev pub reset_text : Result Unit Exhausted → List ℕ
+reset_text (Ok t) = reset_line
+reset_text (Err e) = exhausted_text e.0

@@ -34,7 +34,7 @@ answer_room = function_room * dump_room
 
 abbrev pub answer_text : Bus → List ℕ → Command → List ℕ
 answer_text b line (Read d o w) = read_text w (bus_read_of b d o w)
-answer_text b line (Write d o w v) = write_text (bus_write_of b d o w v).reply
+answer_text b line (Write d o w v) = write_text (bus_write_of b d o w v).answer
 answer_text b line (Lookup a w) = lookup_text (lookup_of b a w)
 answer_text b line Reset = reset_text (bus_reset_of b).answer
 answer_text b line (Enumerate d) = report_text d (enumerate_of b d).report

@@ -1,9 +1,10 @@
 -- Every declared function as a dump that `lspci -F` reads (the console's table of commands).
-use Rattle.std.specs.Prelude.{ℕ, ◌+◌, ◌*◌, List, [], ◌∷◌, ◌++◌, get_or}
+use Rattle.std.specs.Prelude.{ℕ, ◌+◌, ◌*◌, Result, Ok, Err, List, [], ◌∷◌, ◌++◌, get_or}
 use Rattle.text.specs.Numeral.{hex_of}
 use Rattle.text.specs.Part.{parts_below}
 use Rattle.text.specs.Line.{ended, column}
 use Rattle.address.specs.Layout as layout
+use Rattle.refusal.specs.declared.refusal.Refusal.{Refusal}
 use Rattle.config.specs.declared.read_step.ReadAnswer.{ReadAnswer}
 use Rattle.config.specs.declared.read_step.ReadAnswer.TheVariants as read_answer
 use Rattle.bus.specs.Bus.{count_on, device_at, function_at}
@@ -19,14 +20,13 @@ abbrev pub function_zero : List ℕ
 function_zero = 46 ∷ 48 ∷ []
 
 -- "shows what reads of one byte show; a byte that a read does not give (an effect's) is shown as the live image has it"
-abbrev pub shown_or : ReadAnswer → ℕ → ℕ
-shown_or (read_answer.Value v) live = v
-shown_or (read_answer.Effect hit) live = live
-shown_or read_answer.BadAccess live = live
-shown_or read_answer.BadEffect live = live
+abbrev pub shown_or : Result ReadAnswer Refusal → ℕ → ℕ
+shown_or (Ok (read_answer.Value v)) live = v
+shown_or (Ok (read_answer.Effect hit body)) live = live
+shown_or (Err r) live = live
 
 unfoldable pub byte_shown : Bus → ℕ → ℕ → ℕ
-byte_shown b k o = shown_or (bus_read_of b (device_at b k) o 1).answer (get_or (function_at b k).live o 0)
+byte_shown b k o = shown_or (bus_read_of b (device_at b k) o 1) (get_or (function_at b k).live o 0)
 
 -- "16 lines `OO: ` with 16 bytes"
 abbrev pub row_bytes : ℕ

@@ -1,11 +1,12 @@
 // The answers to reads, writes, lookups and resets, as text.
 ghost use Rattle.std.specs.Prelude.{◌≡◌, ◌++◌, ◌+◌, ◌≤◌, length, take};
-ghost use Rattle.dialogue.specs.Access.{value_text, value_room, read_text, refused_text, refused_room, exhausted_text, exhausted_room, probing_text, probing_room, placed_text, placed_room, write_text, hit_text, hit_room, lookup_text, reset_text, access_room};
+ghost use Rattle.dialogue.specs.Access.{value_text, value_room, read_text, refused_text, refused_room, exhausted_text, exhausted_room, probing_text, probing_room, placed_text, placed_room, did_text, write_refused_text, write_text, hit_text, hit_room, lookup_text, reset_text, access_room};
 
 use crate::effect::put_effect;
 use crate::part::{put_bytes, put_column, put_decimal, put_hex};
-use bus::{BusResetAnswer, BusWriteAnswer, BusWriteReply, LookupAnswer};
-use config::{ReadAnswer, ReadReply};
+use bus::{BusWriteAnswer, Exhausted, Hit, WriteRefusal};
+use config::ReadAnswer;
+use refusal::Refusal;
 
 // The widest read.
 const READ_MOST: usize = 4;
@@ -35,24 +36,24 @@ fn put_exhausted(text: &mut [u8], at: usize, device: u8) -> usize
     ensures { (result ≤ at + exhausted_room) × (take result text.new ≡ take at text.old ++ exhausted_text device) }
 {
     let word = put_bytes(text, at, b"refused ");
-    let number = put_decimal(text, word, u64::from(refusal::REVISION_EXHAUSTED));
+    let number = put_decimal(text, word, u64::from(Refusal::RevisionExhausted.number()));
     let device = put_column(text, number, 2, u64::from(device));
     put_bytes(text, device, b"\n")
 }
 
-pub(crate) fn put_read(text: &mut [u8], at: usize, width: usize, reply: ReadReply) -> usize
+pub(crate) fn put_read(
+    text: &mut [u8],
+    at: usize,
+    width: usize,
+    answer: Result<ReadAnswer, Refusal>,
+) -> usize
     requires { at + access_room ≤ length text.old }
-    ensures { (result ≤ at + access_room) × (take result text.new ≡ take at text.old ++ read_text width reply) }
+    ensures { (result ≤ at + access_room) × (take result text.new ≡ take at text.old ++ read_text width answer) }
 {
-    let answer = reply.answer;
     match answer {
-        ReadAnswer::Value(value) => put_value(text, at, width, value),
-        ReadAnswer::Effect(hit) => {
-            let body = reply.body;
-            put_effect(text, at, hit, body)
-        }
-        ReadAnswer::BadAccess => put_refused(text, at, refusal::BAD_ACCESS),
-        ReadAnswer::BadEffect => put_refused(text, at, refusal::BAD_TOUCH),
+        Ok(ReadAnswer::Value(value)) => put_value(text, at, width, value),
+        Ok(ReadAnswer::Effect { hit, body }) => put_effect(text, at, hit, body),
+        Err(refusal) => put_refused(text, at, refusal.number()),
     }
 }
 
@@ -76,24 +77,42 @@ fn put_placed(text: &mut [u8], at: usize, word: &[u8], slot: usize, address: u64
     put_bytes(text, address, b"\n")
 }
 
-pub(crate) fn put_write(text: &mut [u8], at: usize, reply: BusWriteReply) -> usize
+fn put_did(text: &mut [u8], at: usize, answer: BusWriteAnswer) -> usize
     requires { at + access_room ≤ length text.old }
-    ensures { (result ≤ at + access_room) × (take result text.new ≡ take at text.old ++ write_text reply) }
+    ensures { (result ≤ at + access_room) × (take result text.new ≡ take at text.old ++ did_text answer) }
 {
-    let answer = reply.answer;
     match answer {
         BusWriteAnswer::Stored => put_bytes(text, at, b"stored\n"),
         BusWriteAnswer::Dropped => put_bytes(text, at, b"dropped\n"),
         BusWriteAnswer::Probing(slot) => put_probing(text, at, slot),
         BusWriteAnswer::Moved { slot, address } => put_placed(text, at, b"moved", slot, address),
         BusWriteAnswer::Kept { slot, address } => put_placed(text, at, b"kept", slot, address),
-        BusWriteAnswer::Effect(hit) => {
-            let body = reply.body;
-            put_effect(text, at, hit, body)
-        }
-        BusWriteAnswer::BadAccess => put_refused(text, at, refusal::BAD_ACCESS),
-        BusWriteAnswer::BadEffect => put_refused(text, at, refusal::BAD_TOUCH),
-        BusWriteAnswer::Exhausted(device) => put_exhausted(text, at, device),
+        BusWriteAnswer::Effect { hit, body } => put_effect(text, at, hit, body),
+    }
+}
+
+fn put_write_refused(text: &mut [u8], at: usize, refused: WriteRefusal) -> usize
+    requires { at + access_room ≤ length text.old }
+    ensures { (result ≤ at + access_room) × (take result text.new ≡ take at text.old ++ write_refused_text refused) }
+{
+    match refused {
+        WriteRefusal::BadAccess => put_refused(text, at, Refusal::BadAccess.number()),
+        WriteRefusal::BadTouch => put_refused(text, at, Refusal::BadTouch.number()),
+        WriteRefusal::Exhausted(device) => put_exhausted(text, at, device),
+    }
+}
+
+pub(crate) fn put_write(
+    text: &mut [u8],
+    at: usize,
+    answer: Result<BusWriteAnswer, WriteRefusal>,
+) -> usize
+    requires { at + access_room ≤ length text.old }
+    ensures { (result ≤ at + access_room) × (take result text.new ≡ take at text.old ++ write_text answer) }
+{
+    match answer {
+        Ok(did) => put_did(text, at, did),
+        Err(refused) => put_write_refused(text, at, refused),
     }
 }
 
@@ -109,27 +128,23 @@ fn put_hit(text: &mut [u8], at: usize, device: u8, slot: usize, offset: u64) -> 
     put_bytes(text, offset, b"\n")
 }
 
-pub(crate) fn put_lookup(text: &mut [u8], at: usize, answer: LookupAnswer) -> usize
+pub(crate) fn put_lookup(text: &mut [u8], at: usize, answer: Result<Option<Hit>, Refusal>) -> usize
     requires { at + access_room ≤ length text.old }
     ensures { (result ≤ at + access_room) × (take result text.new ≡ take at text.old ++ lookup_text answer) }
 {
     match answer {
-        LookupAnswer::Hit {
-            device,
-            slot,
-            offset,
-        } => put_hit(text, at, device, slot, offset),
-        LookupAnswer::Miss => put_bytes(text, at, b"miss\n"),
-        LookupAnswer::BadWidth => put_refused(text, at, refusal::BAD_ACCESS),
+        Ok(Some(hit)) => put_hit(text, at, hit.device, hit.slot, hit.offset),
+        Ok(None) => put_bytes(text, at, b"miss\n"),
+        Err(refusal) => put_refused(text, at, refusal.number()),
     }
 }
 
-pub(crate) fn put_reset(text: &mut [u8], at: usize, answer: BusResetAnswer) -> usize
+pub(crate) fn put_reset(text: &mut [u8], at: usize, answer: Result<(), Exhausted>) -> usize
     requires { at + access_room ≤ length text.old }
     ensures { (result ≤ at + access_room) × (take result text.new ≡ take at text.old ++ reset_text answer) }
 {
     match answer {
-        BusResetAnswer::Restored => put_bytes(text, at, b"reset\n"),
-        BusResetAnswer::Exhausted(device) => put_exhausted(text, at, device),
+        Ok(()) => put_bytes(text, at, b"reset\n"),
+        Err(Exhausted(device)) => put_exhausted(text, at, device),
     }
 }

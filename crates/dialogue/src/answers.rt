@@ -48,14 +48,12 @@ fn answer_write(
     value: u64,
 ) -> Answered
     requires { answer_room ≤ length text.old }
-    ensures { Told text.new result (write_text (bus_write_of bus device offset width value).reply) (bus_write_of bus device offset width value).bus }
+    ensures { Told text.new result (write_text (bus_write_of bus device offset width value).answer) (bus_write_of bus device offset width value).bus }
 {
     let done = bus::write(bus, device, offset, width, value);
-    let reply = done.reply;
-    let after = done.bus;
     Answered {
-        length: put_write(text, 0, reply),
-        bus: after,
+        length: put_write(text, 0, done.answer),
+        bus: done.bus,
     }
 }
 
@@ -64,11 +62,9 @@ fn answer_reset(text: &mut [u8], bus: Bus) -> Answered
     ensures { Told text.new result (reset_text (bus_reset_of bus).answer) (bus_reset_of bus).bus }
 {
     let done = bus::reset(bus);
-    let answer = done.answer;
-    let after = done.bus;
     Answered {
-        length: put_reset(text, 0, answer),
-        bus: after,
+        length: put_reset(text, 0, done.answer),
+        bus: done.bus,
     }
 }
 

@@ -8,20 +8,19 @@ use address::config_layout;
 use address::limits::FUNCTION_LIMIT;
 use bus::Bus;
 use config::ReadAnswer;
+use refusal::Refusal;
 
 const ROW_BYTES: usize = 16;
 
 const ROWS: usize = 16;
 
 // The value of a read, or another where it gives none.
-fn shown_or(answer: ReadAnswer, live: u8) -> u64
+fn shown_or(answer: Result<ReadAnswer, Refusal>, live: u8) -> u64
     ensures { result ≡ shown_or answer live }
 {
     match answer {
-        ReadAnswer::Value(value) => value,
-        ReadAnswer::Effect(_) => u64::from(live),
-        ReadAnswer::BadAccess => u64::from(live),
-        ReadAnswer::BadEffect => u64::from(live),
+        Ok(ReadAnswer::Value(value)) => value,
+        _ => u64::from(live),
     }
 }
 
@@ -32,8 +31,7 @@ fn byte_shown(bus: Bus, k: usize, offset: usize) -> u64
     let devices = bus.devices;
     let function = bus::function_at(bus, k);
     let live = function.live;
-    let reply = bus::read(bus, word::byte_at(&devices, k) as usize, offset, 1);
-    let answer = reply.answer;
+    let answer = bus::read(bus, word::byte_at(&devices, k) as usize, offset, 1);
     shown_or(answer, word::byte_at(&live, offset))
 }
 

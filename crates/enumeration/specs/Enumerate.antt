@@ -1,5 +1,5 @@
 -- Enumeration, as document 01 writes it: a program over the bus's own reads and writes.
-use Rattle.std.specs.Prelude.{ℕ, zero, suc, ◌+◌, ◌-◌, ◌%◌, ◌^◌, Bool, true, false, cond, List, [], ◌∷◌, eqb, length, get_or, replicate}
+use Rattle.std.specs.Prelude.{ℕ, zero, suc, ◌+◌, ◌-◌, ◌%◌, ◌^◌, Bool, true, false, cond, Option, None, Some, is_some, unwrap_or, Result, Ok, Err, List, [], ◌∷◌, eqb, length, get_or, replicate}
 use Rattle.std.specs.Int.Bits.{bit_and}
 use Rattle.word.specs.Table.{table, filled}
 use Rattle.address.specs.Layout as layout
@@ -7,6 +7,7 @@ use Rattle.address.specs.Limits.{capability_room}
 use Rattle.address.specs.Kinds.{slot, register_of}
 use Rattle.bar.specs.Range.{four_gib}
 use Rattle.config.specs.declared.function.Identity.{Identity}
+use Rattle.refusal.specs.declared.refusal.Refusal.{Refusal}
 use Rattle.config.specs.declared.read_step.ReadAnswer.{ReadAnswer}
 use Rattle.config.specs.declared.read_step.ReadAnswer.TheVariants as read_answer
 use Rattle.declaration.specs.Blank.{no_identity}
@@ -17,25 +18,18 @@ use Rattle.enumeration.specs.declared.report.Listed.{Listed}
 use Rattle.enumeration.specs.declared.report.Report.{Report}
 use Rattle.enumeration.specs.declared.whole.Enumerated.{Enumerated}
 
--- the number that a read gives, 0 where it gives none, and whether it gives one
-abbrev pub number_of : ReadAnswer → ℕ
-number_of (read_answer.Value v) = v
-number_of (read_answer.Effect hit) = 0
-number_of read_answer.BadAccess = 0
-number_of read_answer.BadEffect = 0
+-- the number that a read gives, if it gives one
+abbrev pub value_of : Result ReadAnswer Refusal → Option ℕ
+value_of (Ok (read_answer.Value v)) = Some v
+value_of (Ok (read_answer.Effect hit body)) = None
+value_of (Err r) = None
 
-abbrev pub given : ReadAnswer → Bool
-given (read_answer.Value v) = true
-given (read_answer.Effect hit) = false
-given read_answer.BadAccess = false
-given read_answer.BadEffect = false
-
--- (a read of w bytes gives a number of w bytes; the remainder says so where a state is none that a bus reaches)
+-- 0 where it gives none (a read of w bytes gives a number of w bytes; the remainder says so where a state is none that a bus reaches)
 unfoldable pub asked : Bus → ℕ → ℕ → ℕ → ℕ
-asked b d o w = number_of (bus_read_of b d o w).answer % 256 ^ w
+asked b d o w = unwrap_or (value_of (bus_read_of b d o w)) 0 % 256 ^ w
 
 unfoldable pub answers_byte : Bus → ℕ → ℕ → Bool
-answers_byte b d o = given (bus_read_of b d o 1).answer
+answers_byte b d o = is_some (value_of (bus_read_of b d o 1))
 
 -- "identity (vendor, device id, subsystem pair, revision, the three class bytes) .., read at the offsets above"
 unfoldable pub identity_read : Bus → ℕ → Identity

@@ -1,10 +1,9 @@
 -- A BAR that moves, from the bytes of document 01's Run file on: enumeration reports where it went, and memory lookup finds it there and no longer where it was (proofs/MovedCase.antt proves `MovedCase`).
-use Rattle.std.specs.Prelude.{◌≡◌, [], ◌∷◌}
+use Rattle.std.specs.Prelude.{◌≡◌, [], ◌∷◌, None, Ok}
 use Rattle.address.specs.Layout as layout
 use Rattle.bus.specs.Access.{bus_write_of}
-use Rattle.bus.specs.Lookup.{lookup_of}
+use Rattle.bus.specs.Lookup.{hit_of, lookup_of}
 use Rattle.bus.specs.Run.{run_file}
-use Rattle.bus.specs.declared.memory_lookup.LookupAnswer.TheVariants as lookup
 use Rattle.bus.specs.declared.state.Bus.{Bus}
 use Rattle.bus.specs.declared.write_access.BusWriteAnswer.TheVariants as write
 use Rattle.enumeration.specs.Enumerate.{register_at, enumerate_of}
@@ -17,11 +16,11 @@ moves = writes 5 (register_at 0) 4 0x80008000 ∷ writes 5 layout.command 2 layo
 
 -- what becomes of a bus that starts so
 pub record Moves (b : Bus) : Type 0 where
-  pub answered : (bus_write_of b 5 (register_at 0) 4 0x80008000).reply.answer ≡ write.Moved 0 0x80008000
+  pub answered : (bus_write_of b 5 (register_at 0) 4 0x80008000).answer ≡ Ok (write.Moved 0 0x80008000)
   pub reported : slot_in (enumerate_of (ran b moves) 5).report 0 ≡ record { size = 0x4000; address = 0x80008000 }
-  pub first : lookup_of (ran b moves) 0x80008000 4 ≡ lookup.Hit 5 0 0
-  pub last : lookup_of (ran b moves) 0x8000bff8 8 ≡ lookup.Hit 5 0 0x3ff8
-  pub gone : lookup_of (ran b moves) 0x80004000 4 ≡ lookup.Miss
+  pub first : lookup_of (ran b moves) 0x80008000 4 ≡ Ok (hit_of 5 0 0)
+  pub last : lookup_of (ran b moves) 0x8000bff8 8 ≡ Ok (hit_of 5 0 0x3ff8)
+  pub gone : lookup_of (ran b moves) 0x80004000 4 ≡ Ok None
 
 abbrev pub MovedCase : Type 0
 MovedCase = Accepted run_file × Moves (started run_file)

@@ -1,6 +1,6 @@
 -- Demand 3. "On a bus from an accepted file, after any accesses and resets, if no BAR of the declared function is showing its size, the enumeration of document 01 reports the declared identity, pin, slots, sizes, capability ids and offsets, and the addresses that memory lookup uses, and leaves those addresses as they were. So two functions with equal reports agree in all of these. A 4 GiB BAR counts as an empty slot."
 -- proofs/Demand.antt proves `Demand` and what goes with it: `Agreement`, `Absence`, `Restoration`, `Enumerations`, `OnlyAnswer`.
-use Rattle.std.specs.Prelude.{ℕ, ◌+◌, ◌-◌, ◌<◌, ◌≤◌, Bool, true, false, ◌||◌, cond, List, [], ◌∷◌, ◌++◌, ◌≡◌, eqb, get_or, is_ok}
+use Rattle.std.specs.Prelude.{ℕ, ◌+◌, ◌-◌, ◌<◌, ◌≤◌, Bool, true, false, ◌||◌, cond, List, [], ◌∷◌, ◌++◌, ◌≡◌, eqb, get_or, is_ok, Option, None, Result, Ok}
 use Rattle.word.specs.Table.{table}
 use Rattle.word.specs.Width.{width_ok}
 use Rattle.address.specs.Layout.{bar_count}
@@ -17,11 +17,11 @@ use Rattle.declaration.specs.Good.{Bytes}
 use Rattle.declaration.specs.declared.answer.Declaration.{Declaration}
 use Rattle.bus.specs.Bus.{function_at, key_of}
 use Rattle.bus.specs.Held.{Looked}
-use Rattle.bus.specs.Lookup.{most_lookup, decodes, lookup_of}
+use Rattle.bus.specs.Lookup.{most_lookup, decodes, hit_of, lookup_of}
 use Rattle.bus.specs.Outcome.{declaration_of}
 use Rattle.bus.specs.Start.{declared_function, addresses_in, bus_given, start_of}
-use Rattle.bus.specs.declared.memory_lookup.LookupAnswer.{LookupAnswer}
-use Rattle.bus.specs.declared.memory_lookup.LookupAnswer.TheVariants as lookup
+use Rattle.bus.specs.declared.memory_lookup.Hit.{Hit}
+use Rattle.refusal.specs.declared.refusal.Refusal.{Refusal}
 use Rattle.bus.specs.declared.state.Bus.{Bus}
 use Rattle.enumeration.specs.Enumerate.{empty_slot, report_with, absent_report, enumerate_of}
 use Rattle.enumeration.specs.History.{History, resets, ran}
@@ -75,7 +75,7 @@ Quiet s = (i : ℕ) → i < bar_count → 0 < (bar_at s.bars i).plan.size → (b
 
 -- "the addresses that memory lookup uses": every whole access in a slot as it is reported is answered with that slot and the offset from the reported address, exactly if command bit 1 is set
 abbrev pub Used : Bus → Bool → ℕ → ℕ → SlotReport → Type 0
-Used b decoding device i r = (x w : ℕ) → width_ok most_lookup w ≡ true → r.address ≤ x → x + w ≤ r.address + r.size → lookup_of b x w ≡ cond decoding (lookup.Hit device i (x - r.address)) lookup.Miss
+Used b decoding device i r = (x w : ℕ) → width_ok most_lookup w ≡ true → r.address ≤ x → x + w ≤ r.address + r.size → lookup_of b x w ≡ Ok (cond decoding (hit_of device i (x - r.address)) None)
 
 -- and no others: an access that is answered with that device and slot lies whole in the slot as it is reported, at the offset from the reported address. A 4 GiB BAR, whose slot is reported as empty, is left out
 pub record LiesIn (r : SlotReport) (x w o : ℕ) : Type 0 where
@@ -84,7 +84,7 @@ pub record LiesIn (r : SlotReport) (x w o : ℕ) : Type 0 where
   pub offset : o ≡ x - r.address
 
 abbrev pub UsedOnly : Bus → ℕ → ℕ → SlotReport → Type 0
-UsedOnly b device i r = (x w o : ℕ) → lookup_of b x w ≡ lookup.Hit device i o → LiesIn r x w o
+UsedOnly b device i r = (x w o : ℕ) → lookup_of b x w ≡ Ok (hit_of device i o) → LiesIn r x w o
 
 -- the truth about the function at index k, in device order, on a bus
 pub record Truth (d : Declaration) (b : Bus) (k : ℕ) : Type 0 where
@@ -133,4 +133,4 @@ Enumerations = (b : Bus) (device : ℕ) → (h : History) × ((enumerate_of b de
 
 -- memory lookup after any history has one answer: what is so of the BARs (`Looked`) is what it answers
 abbrev pub OnlyAnswer : Type 0
-OnlyAnswer = (file : List ℕ) → Accepted file → (h : History) (address width : ℕ) (r : LookupAnswer) → Looked (ran (started file) h) address width r → lookup_of (ran (started file) h) address width ≡ r
+OnlyAnswer = (file : List ℕ) → Accepted file → (h : History) (address width : ℕ) (r : Result (Option Hit) Refusal) → Looked (ran (started file) h) address width r → lookup_of (ran (started file) h) address width ≡ r

@@ -1,67 +1,46 @@
 // Reads of the bus as numbers.
 ghost use Rattle.std.specs.Prelude.{◌≡◌};
-ghost use Rattle.enumeration.specs.Enumerate.{number_of, given, asked, answers_byte, identity_read};
+ghost use Rattle.bus.specs.Access.{bus_read_of};
+ghost use Rattle.enumeration.specs.Enumerate.{value_of, asked, answers_byte, identity_read};
 
 use address::config_layout;
 use bus::{Bus, read};
 use config::{Identity, ReadAnswer};
 
-// The number that an answer gives, 0 where it gives none.
-fn number_of(answer: ReadAnswer) -> u64
-    ensures { result ≡ number_of answer }
+// The number that a read gives, if it gives one.
+fn value_at(bus: Bus, device: usize, offset: usize, width: usize) -> Option<u64>
+    ensures { result ≡ value_of (bus_read_of bus device offset width) }
 {
-    match answer {
-        ReadAnswer::Value(value) => value,
-        ReadAnswer::Effect(_) => 0,
-        ReadAnswer::BadAccess => 0,
-        ReadAnswer::BadEffect => 0,
+    match read(bus, device, offset, width) {
+        Ok(ReadAnswer::Value(value)) => Some(value),
+        _ => None,
     }
 }
 
-// Whether it gives one.
-fn is_given(answer: ReadAnswer) -> bool
-    ensures { result ≡ given answer }
-{
-    match answer {
-        ReadAnswer::Value(_) => true,
-        ReadAnswer::Effect(_) => false,
-        ReadAnswer::BadAccess => false,
-        ReadAnswer::BadEffect => false,
-    }
-}
-
-// A read of the bus as a byte, a word or a dword.
+// A read of the bus as a byte, a word or a dword, 0 where it gives no number. One for each: a shared one would leave the narrowing to every caller.
 pub(crate) fn ask_byte(bus: Bus, device: usize, offset: usize) -> u8
     ensures { result ≡ asked bus device offset 1 }
 {
-    let reply = read(bus, device, offset, 1);
-    let answer = reply.answer;
-    (number_of(answer) % 0x100) as u8
+    (value_at(bus, device, offset, 1).unwrap_or(0) % 0x100) as u8
 }
 
 pub(crate) fn ask_word(bus: Bus, device: usize, offset: usize) -> u16
     ensures { result ≡ asked bus device offset 2 }
 {
-    let reply = read(bus, device, offset, 2);
-    let answer = reply.answer;
-    (number_of(answer) % 0x1_0000) as u16
+    (value_at(bus, device, offset, 2).unwrap_or(0) % 0x1_0000) as u16
 }
 
 pub(crate) fn ask_dword(bus: Bus, device: usize, offset: usize) -> u64
     ensures { result ≡ asked bus device offset 4 }
 {
-    let reply = read(bus, device, offset, 4);
-    let answer = reply.answer;
-    number_of(answer) % 0x1_0000_0000
+    value_at(bus, device, offset, 4).unwrap_or(0) % 0x1_0000_0000
 }
 
 // Whether a read of one byte gives one.
 pub(crate) fn answers_byte(bus: Bus, device: usize, offset: usize) -> bool
     ensures { result ≡ answers_byte bus device offset }
 {
-    let reply = read(bus, device, offset, 1);
-    let answer = reply.answer;
-    is_given(answer)
+    value_at(bus, device, offset, 1).is_some()
 }
 
 pub(crate) fn read_identity(bus: Bus, device: usize) -> Identity

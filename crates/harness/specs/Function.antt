@@ -2,13 +2,13 @@
 use Rattle.std.specs.Prelude.{ℕ, Bool, true, false, Option, Some, None, Result, Ok, Err}
 use Rattle.capability.specs.Blank.{no_placed_effect}
 use Rattle.capability.specs.declared.snapshot.Snapshot.{Snapshot}
-use Rattle.config.specs.Read.{read_number}
-use Rattle.config.specs.Write.{write_number, relocated_at}
-use Rattle.refusal.specs.Refusal.{answer_number}
+use Rattle.refusal.specs.Number.{accepted}
+use Rattle.config.specs.State.{no_body}
+use Rattle.config.specs.Write.{relocated_at}
+use Rattle.refusal.specs.Refusal.{number_of, answer_number}
 use Rattle.config.specs.declared.state.FunctionState.{FunctionState}
 use Rattle.config.specs.declared.read_step.ReadAnswer.{ReadAnswer}
 use Rattle.config.specs.declared.read_step.ReadAnswer.TheVariants as read
-use Rattle.config.specs.declared.read_step.ReadReply.{ReadReply}
 use Rattle.config.specs.declared.write_step.WriteAnswer.{WriteAnswer}
 use Rattle.config.specs.declared.write_step.WriteAnswer.TheVariants as write
 use Rattle.config.specs.declared.write_step.WriteDone.{WriteDone}
@@ -25,50 +25,42 @@ read_plain n v b =
     record { refusal = n; inside = false; value = v; capability_id = 0; region = no_placed_effect; offset = 0; region_offset = 0; body = b }
 
 -- a value, or the numbers of an effect with the copy of the live body, or a refusal alone
-abbrev pub read_numbers : Snapshot → ReadAnswer → ReadOut
-read_numbers b (read.Value v) = read_plain (read_number (read.Value v)) v b
-read_numbers b (read.Effect hit) =
-    record { refusal = read_number (read.Effect hit); inside = true; value = 0; capability_id = hit.capability_id; region = hit.region; offset = hit.offset; region_offset = hit.region_offset; body = b }
-read_numbers b read.BadAccess = read_plain (read_number read.BadAccess) 0 b
-read_numbers b read.BadEffect = read_plain (read_number read.BadEffect) 0 b
-
--- the reply of a read
-abbrev pub read_reply_numbers : ReadReply → ReadOut
-read_reply_numbers r = read_numbers r.body r.answer
+abbrev pub read_numbers : Result ReadAnswer Refusal → ReadOut
+read_numbers (Ok (read.Value v)) = read_plain accepted v no_body
+read_numbers (Ok (read.Effect hit body)) =
+    record { refusal = accepted; inside = true; value = 0; capability_id = hit.capability_id; region = hit.region; offset = hit.offset; region_offset = hit.region_offset; body = body }
+read_numbers (Err r) = read_plain (number_of r) 0 no_body
 
 -- what a write did: stored, started a probe, asks for a candidate, is inside an effect; 0 where it is refused
-abbrev pub kind_of : WriteAnswer → ℕ
-kind_of write.Stored = 0
-kind_of (write.Probing slot) = 1
-kind_of (write.Candidate slot address) = 2
-kind_of (write.Effect hit) = 3
-kind_of write.BadAccess = 0
-kind_of write.BadEffect = 0
-kind_of write.Exhausted = 0
+abbrev pub kind_stored : ℕ
+kind_stored = 0
+
+abbrev pub kind_probing : ℕ
+kind_probing = 1
+
+abbrev pub kind_candidate : ℕ
+kind_candidate = 2
+
+abbrev pub kind_effect : ℕ
+kind_effect = 3
 
 -- a write that no effect answers
-abbrev pub write_plain : ℕ → ℕ → ℕ → ℕ → Snapshot → FunctionState → WriteOut
-write_plain n kind slot address b f =
-    record { refusal = n; kind = kind; slot = slot; address = address; capability_id = 0; region = no_placed_effect; offset = 0; region_offset = 0; body = b; state = f }
+abbrev pub write_plain : ℕ → ℕ → ℕ → ℕ → FunctionState → WriteOut
+write_plain n kind slot address f =
+    record { refusal = n; kind = kind; slot = slot; address = address; capability_id = 0; region = no_placed_effect; offset = 0; region_offset = 0; body = no_body; state = f }
 
--- an answer with its number and its kind, at a slot and an address
-abbrev pub write_at : WriteAnswer → ℕ → ℕ → Snapshot → FunctionState → WriteOut
-write_at a slot address b f = write_plain (write_number a) (kind_of a) slot address b f
+-- a slot and an address where the write asks for them, or the numbers of an effect with the copy of the live body, or a refusal alone
+abbrev pub write_numbers : FunctionState → Result WriteAnswer Refusal → WriteOut
+write_numbers f (Ok write.Stored) = write_plain accepted kind_stored 0 0 f
+write_numbers f (Ok (write.Probing slot)) = write_plain accepted kind_probing slot 0 f
+write_numbers f (Ok (write.Candidate slot address)) = write_plain accepted kind_candidate slot address f
+write_numbers f (Ok (write.Effect hit body)) =
+    record { refusal = accepted; kind = kind_effect; slot = 0; address = 0; capability_id = hit.capability_id; region = hit.region; offset = hit.offset; region_offset = hit.region_offset; body = body; state = f }
+write_numbers f (Err r) = write_plain (number_of r) kind_stored 0 0 f
 
--- a slot and an address where the write asks for them, or the numbers of an effect, or a refusal alone
-abbrev pub write_numbers : Snapshot → FunctionState → WriteAnswer → WriteOut
-write_numbers b f write.Stored = write_at write.Stored 0 0 b f
-write_numbers b f (write.Probing slot) = write_at (write.Probing slot) slot 0 b f
-write_numbers b f (write.Candidate slot address) = write_at (write.Candidate slot address) slot address b f
-write_numbers b f (write.Effect hit) =
-    record { refusal = write_number (write.Effect hit); kind = kind_of (write.Effect hit); slot = 0; address = 0; capability_id = hit.capability_id; region = hit.region; offset = hit.offset; region_offset = hit.region_offset; body = b; state = f }
-write_numbers b f write.BadAccess = write_at write.BadAccess 0 0 b f
-write_numbers b f write.BadEffect = write_at write.BadEffect 0 0 b f
-write_numbers b f write.Exhausted = write_at write.Exhausted 0 0 b f
-
--- the reply of a write, with the state after it
+-- what a write did, with the state after it
 abbrev pub write_done_numbers : WriteDone → WriteOut
-write_done_numbers d = write_numbers d.reply.body d.state d.reply.answer
+write_done_numbers d = write_numbers d.state d.answer
 
 -- what the bus said of a candidate
 abbrev pub relocation : ℕ → Bool → Option ℕ

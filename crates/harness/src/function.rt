@@ -4,14 +4,15 @@ ghost use Rattle.address.specs.Kinds.{slot_of};
 ghost use Rattle.config.specs.Read.{read_of};
 ghost use Rattle.config.specs.Write.{write_of};
 ghost use Rattle.config.specs.Reset.{reset_done};
-ghost use Rattle.harness.specs.Function.{read_plain, read_numbers, read_reply_numbers, kind_of, write_plain, write_numbers, write_done_numbers, relocation, finished, reset_numbers};
+ghost use Rattle.harness.specs.Function.{read_plain, read_numbers, write_plain, write_numbers, write_done_numbers, relocation, finished, reset_numbers};
 ghost use Rattle.config.specs.Start.{power_on_state};
 
 use address::Slot;
 use address::limits::BAR_SLOTS;
 use bar::BarState;
 use capability::{Placed, PlacedEffect, Snapshot};
-use config::{FunctionState, PowerOn, ReadAnswer, WriteAnswer};
+use config::{FunctionState, PowerOn, ReadAnswer, WriteAnswer, no_body};
+use refusal::Refusal;
 
 // What a write did; a refused one has the kind of one that stored.
 const KIND_STORED: u8 = 0;
@@ -90,14 +91,13 @@ fn plain_read(refusal: u8, value: u64, body: Snapshot) -> ReadOut
     }
 }
 
-fn read_out(answer: ReadAnswer, body: Snapshot) -> ReadOut
-    ensures { result ≡ read_numbers body answer }
+fn read_out(answer: Result<ReadAnswer, Refusal>) -> ReadOut
+    ensures { result ≡ read_numbers answer }
 {
-    let refusal = answer.number();
     match answer {
-        ReadAnswer::Value(value) => plain_read(refusal, value, body),
-        ReadAnswer::Effect(hit) => ReadOut {
-            refusal,
+        Ok(ReadAnswer::Value(value)) => plain_read(refusal::ACCEPTED, value, no_body()),
+        Ok(ReadAnswer::Effect { hit, body }) => ReadOut {
+            refusal: refusal::ACCEPTED,
             inside: true,
             value: 0,
             capability_id: hit.capability_id,
@@ -106,32 +106,21 @@ fn read_out(answer: ReadAnswer, body: Snapshot) -> ReadOut
             region_offset: hit.region_offset,
             body,
         },
-        ReadAnswer::BadAccess => plain_read(refusal, 0, body),
-        ReadAnswer::BadEffect => plain_read(refusal, 0, body),
+        Err(refusal) => plain_read(refusal.number(), 0, no_body()),
     }
 }
 
 // Reads `width` bytes at `offset`.
 #[unsafe(no_mangle)]
 pub extern "C" fn harness_read(state: FunctionState, offset: usize, width: usize) -> ReadOut
-    ensures { result ≡ read_reply_numbers (read_of state offset width) }
+    ensures { result ≡ read_numbers (read_of state offset width) }
 {
-    let reply = config::read(state, offset, width);
-    let answer = reply.answer;
-    let body = reply.body;
-    read_out(answer, body)
+    read_out(config::read(state, offset, width))
 }
 
 // A write that no effect answers.
-fn plain_write(
-    refusal: u8,
-    kind: u8,
-    slot: usize,
-    address: u64,
-    body: Snapshot,
-    state: FunctionState,
-) -> WriteOut
-    ensures { result ≡ write_plain refusal kind slot address body state }
+fn plain_write(refusal: u8, kind: u8, slot: usize, address: u64, state: FunctionState) -> WriteOut
+    ensures { result ≡ write_plain refusal kind slot address state }
 {
     WriteOut {
         refusal,
@@ -142,42 +131,24 @@ fn plain_write(
         region: PlacedEffect::none(),
         offset: 0,
         region_offset: 0,
-        body,
+        body: no_body(),
         state,
     }
 }
 
-fn kind_of(answer: WriteAnswer) -> u8
-    ensures { result ≡ kind_of answer }
+fn write_out(answer: Result<WriteAnswer, Refusal>, state: FunctionState) -> WriteOut
+    ensures { result ≡ write_numbers state answer }
 {
+    let refusal = refusal::ACCEPTED;
     match answer {
-        WriteAnswer::Stored => KIND_STORED,
-        WriteAnswer::Probing(_) => KIND_PROBING,
-        WriteAnswer::Candidate {
-            slot: _,
-            address: _,
-        } => KIND_CANDIDATE,
-        WriteAnswer::Effect(_) => KIND_EFFECT,
-        WriteAnswer::BadAccess => KIND_STORED,
-        WriteAnswer::BadEffect => KIND_STORED,
-        WriteAnswer::Exhausted => KIND_STORED,
-    }
-}
-
-fn write_out(answer: WriteAnswer, body: Snapshot, state: FunctionState) -> WriteOut
-    ensures { result ≡ write_numbers body state answer }
-{
-    let refusal = answer.number();
-    let kind = kind_of(answer);
-    match answer {
-        WriteAnswer::Stored => plain_write(refusal, kind, 0, 0, body, state),
-        WriteAnswer::Probing(slot) => plain_write(refusal, kind, slot, 0, body, state),
-        WriteAnswer::Candidate { slot, address } => {
-            plain_write(refusal, kind, slot, address, body, state)
+        Ok(WriteAnswer::Stored) => plain_write(refusal, KIND_STORED, 0, 0, state),
+        Ok(WriteAnswer::Probing(slot)) => plain_write(refusal, KIND_PROBING, slot, 0, state),
+        Ok(WriteAnswer::Candidate { slot, address }) => {
+            plain_write(refusal, KIND_CANDIDATE, slot, address, state)
         }
-        WriteAnswer::Effect(hit) => WriteOut {
+        Ok(WriteAnswer::Effect { hit, body }) => WriteOut {
             refusal,
-            kind,
+            kind: KIND_EFFECT,
             slot: 0,
             address: 0,
             capability_id: hit.capability_id,
@@ -187,9 +158,7 @@ fn write_out(answer: WriteAnswer, body: Snapshot, state: FunctionState) -> Write
             body,
             state,
         },
-        WriteAnswer::BadAccess => plain_write(refusal, kind, 0, 0, body, state),
-        WriteAnswer::BadEffect => plain_write(refusal, kind, 0, 0, body, state),
-        WriteAnswer::Exhausted => plain_write(refusal, kind, 0, 0, body, state),
+        Err(refusal) => plain_write(refusal.number(), KIND_STORED, 0, 0, state),
     }
 }
 
@@ -204,11 +173,7 @@ pub extern "C" fn harness_write(
     ensures { result ≡ write_done_numbers (write_of state offset width value) }
 {
     let done = config::write(state, offset, width, value);
-    let reply = done.reply;
-    let answer = reply.answer;
-    let body = reply.body;
-    let after = done.state;
-    write_out(answer, body, after)
+    write_out(done.answer, done.state)
 }
 
 fn relocation_of(accepted: bool, address: u64) -> Option<u64>

@@ -20,15 +20,15 @@ use Rattle.voussglen.specs.declared.starts.StartStep.{StartStep}
 abbrev pub read_step : Bus → Snapshot → ReadAsk → ReadStep
 read_step b held a =
     record {
-      result = read_result (bus_read_of b a.device a.offset a.width).answer;
-      body = read_body (bus_read_of b a.device a.offset a.width).body held (bus_read_of b a.device a.offset a.width).answer;
+      result = read_result (bus_read_of b a.device a.offset a.width);
+      body = read_body held (bus_read_of b a.device a.offset a.width);
     }
 
 abbrev pub write_step : Bus → Snapshot → WriteAsk → WriteStep
 write_step b held a =
     record {
-      result = write_result (bus_write_of b a.device a.offset a.width a.value).reply.answer;
-      body = write_body (bus_write_of b a.device a.offset a.width a.value).reply.body held (bus_write_of b a.device a.offset a.width a.value).reply.answer;
+      result = write_result (bus_write_of b a.device a.offset a.width a.value).answer;
+      body = write_body held (bus_write_of b a.device a.offset a.width a.value).answer;
       bus = (bus_write_of b a.device a.offset a.width a.value).bus;
     }
 

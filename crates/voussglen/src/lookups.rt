@@ -4,34 +4,30 @@ ghost use Rattle.voussglen.specs.Result.{lookup_result};
 ghost use Rattle.voussglen.specs.Step.{lookup_step};
 
 use crate::results::{KIND_HIT, KIND_MISS, KIND_REFUSED, LookupAsk, LookupResult};
-use bus::{Bus, LookupAnswer};
+use bus::{Bus, Hit};
+use refusal::Refusal;
 
-fn result_of(answer: LookupAnswer) -> LookupResult
+fn result_of(answer: Result<Option<Hit>, Refusal>) -> LookupResult
     ensures { result ≡ lookup_result answer }
 {
-    let refusal = answer.number();
     match answer {
-        LookupAnswer::Hit {
-            device,
-            slot,
-            offset,
-        } => LookupResult {
+        Ok(Some(hit)) => LookupResult {
             kind: KIND_HIT,
-            refusal,
-            device,
-            slot,
-            offset,
+            refusal: refusal::ACCEPTED,
+            device: hit.device,
+            slot: hit.slot,
+            offset: hit.offset,
         },
-        LookupAnswer::Miss => LookupResult {
+        Ok(None) => LookupResult {
             kind: KIND_MISS,
-            refusal,
+            refusal: refusal::ACCEPTED,
             device: 0,
             slot: 0,
             offset: 0,
         },
-        LookupAnswer::BadWidth => LookupResult {
+        Err(refusal) => LookupResult {
             kind: KIND_REFUSED,
-            refusal,
+            refusal: refusal.number(),
             device: 0,
             slot: 0,
             offset: 0,

@@ -8,6 +8,7 @@ use crate::results::{KIND_EFFECT, KIND_REFUSED, KIND_VALUE, ReadAsk, ReadResult,
 use bus::Bus;
 use capability::Snapshot;
 use config::ReadAnswer;
+use refusal::Refusal;
 
 // An answer that is none of an effect.
 fn plain(kind: u8, refusal: u8, value: u64) -> ReadResult
@@ -21,32 +22,28 @@ fn plain(kind: u8, refusal: u8, value: u64) -> ReadResult
     }
 }
 
-fn result_of(answer: ReadAnswer) -> ReadResult
+fn result_of(answer: Result<ReadAnswer, Refusal>) -> ReadResult
     ensures { result ≡ read_result answer }
 {
-    let refusal = answer.number();
     match answer {
-        ReadAnswer::Value(value) => plain(KIND_VALUE, refusal, value),
-        ReadAnswer::Effect(hit) => ReadResult {
+        Ok(ReadAnswer::Value(value)) => plain(KIND_VALUE, refusal::ACCEPTED, value),
+        Ok(ReadAnswer::Effect { hit, body: _ }) => ReadResult {
             kind: KIND_EFFECT,
-            refusal,
+            refusal: refusal::ACCEPTED,
             value: 0,
             effect: hit,
         },
-        ReadAnswer::BadAccess => plain(KIND_REFUSED, refusal, 0),
-        ReadAnswer::BadEffect => plain(KIND_REFUSED, refusal, 0),
+        Err(refusal) => plain(KIND_REFUSED, refusal.number(), 0),
     }
 }
 
 // What the lent buffer holds: the body of an effect, else what it held.
-fn body_of(answer: ReadAnswer, told: Snapshot, held: Snapshot) -> Snapshot
-    ensures { result ≡ read_body told held answer }
+fn body_of(answer: Result<ReadAnswer, Refusal>, held: Snapshot) -> Snapshot
+    ensures { result ≡ read_body held answer }
 {
     match answer {
-        ReadAnswer::Value(_) => held,
-        ReadAnswer::Effect(_) => told,
-        ReadAnswer::BadAccess => held,
-        ReadAnswer::BadEffect => held,
+        Ok(ReadAnswer::Effect { hit: _, body }) => body,
+        _ => held,
     }
 }
 
@@ -60,12 +57,10 @@ pub struct ReadStep {
 fn step(bus: Bus, body: Snapshot, ask: ReadAsk) -> ReadStep
     ensures { result ≡ read_step bus body ask }
 {
-    let reply = bus::read(bus, ask.device, ask.offset, ask.width);
-    let answer = reply.answer;
-    let told = reply.body;
+    let answer = bus::read(bus, ask.device, ask.offset, ask.width);
     ReadStep {
         result: result_of(answer),
-        body: body_of(answer, told, body),
+        body: body_of(answer, body),
     }
 }
 

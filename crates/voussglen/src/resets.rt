@@ -4,15 +4,21 @@ ghost use Rattle.voussglen.specs.Result.{reset_result};
 ghost use Rattle.voussglen.specs.Step.{reset_step};
 
 use crate::results::ResetResult;
-use bus::{Bus, BusResetAnswer};
+use bus::{Bus, Exhausted};
+use refusal::Refusal;
 
-fn result_of(answer: BusResetAnswer) -> ResetResult
+fn result_of(answer: Result<(), Exhausted>) -> ResetResult
     ensures { result ≡ reset_result answer }
 {
-    let refusal = answer.number();
     match answer {
-        BusResetAnswer::Restored => ResetResult { refusal, device: 0 },
-        BusResetAnswer::Exhausted(device) => ResetResult { refusal, device },
+        Ok(()) => ResetResult {
+            refusal: refusal::ACCEPTED,
+            device: 0,
+        },
+        Err(exhausted) => ResetResult {
+            refusal: Refusal::from(exhausted).number(),
+            device: exhausted.0,
+        },
     }
 }
 
@@ -27,11 +33,9 @@ fn step(bus: Bus) -> ResetStep
     ensures { result ≡ reset_step bus }
 {
     let done = bus::reset(bus);
-    let answer = done.answer;
-    let after = done.bus;
     ResetStep {
-        result: result_of(answer),
-        bus: after,
+        result: result_of(done.answer),
+        bus: done.bus,
     }
 }
 

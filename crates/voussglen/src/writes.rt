@@ -1,14 +1,15 @@
 // Config writes.
 ghost use Rattle.std.specs.Prelude.{◌≡◌};
-ghost use Rattle.voussglen.specs.Result.{write_plain, write_result, write_body};
+ghost use Rattle.voussglen.specs.Result.{write_plain, did_result, device_told, write_result, write_body};
 ghost use Rattle.voussglen.specs.Step.{write_step};
 
 use crate::results::{
     KIND_DROPPED, KIND_EFFECT, KIND_KEPT, KIND_MOVED, KIND_PROBING, KIND_REFUSED, KIND_STORED,
     WriteAsk, WriteResult, no_effect,
 };
-use bus::{Bus, BusWriteAnswer};
+use bus::{Bus, BusWriteAnswer, WriteRefusal};
 use capability::Snapshot;
+use refusal::Refusal;
 
 // An answer that is none of an effect.
 fn plain(kind: u8, refusal: u8, device: u8, slot: usize, address: u64) -> WriteResult
@@ -24,17 +25,17 @@ fn plain(kind: u8, refusal: u8, device: u8, slot: usize, address: u64) -> WriteR
     }
 }
 
-fn result_of(answer: BusWriteAnswer) -> WriteResult
-    ensures { result ≡ write_result answer }
+fn did(answer: BusWriteAnswer) -> WriteResult
+    ensures { result ≡ did_result answer }
 {
-    let refusal = answer.number();
+    let refusal = refusal::ACCEPTED;
     match answer {
         BusWriteAnswer::Stored => plain(KIND_STORED, refusal, 0, 0, 0),
         BusWriteAnswer::Dropped => plain(KIND_DROPPED, refusal, 0, 0, 0),
         BusWriteAnswer::Probing(slot) => plain(KIND_PROBING, refusal, 0, slot, 0),
         BusWriteAnswer::Moved { slot, address } => plain(KIND_MOVED, refusal, 0, slot, address),
         BusWriteAnswer::Kept { slot, address } => plain(KIND_KEPT, refusal, 0, slot, address),
-        BusWriteAnswer::Effect(hit) => WriteResult {
+        BusWriteAnswer::Effect { hit, body: _ } => WriteResult {
             kind: KIND_EFFECT,
             refusal,
             device: 0,
@@ -42,32 +43,38 @@ fn result_of(answer: BusWriteAnswer) -> WriteResult
             address: 0,
             effect: hit,
         },
-        BusWriteAnswer::BadAccess => plain(KIND_REFUSED, refusal, 0, 0, 0),
-        BusWriteAnswer::BadEffect => plain(KIND_REFUSED, refusal, 0, 0, 0),
-        BusWriteAnswer::Exhausted(device) => plain(KIND_REFUSED, refusal, device, 0, 0),
+    }
+}
+
+// The device that a refusal tells.
+fn device_told(refused: WriteRefusal) -> u8
+    ensures { result ≡ device_told refused }
+{
+    match refused {
+        WriteRefusal::Exhausted(device) => device,
+        _ => 0,
+    }
+}
+
+fn result_of(answer: Result<BusWriteAnswer, WriteRefusal>) -> WriteResult
+    ensures { result ≡ write_result answer }
+{
+    match answer {
+        Ok(answer) => did(answer),
+        Err(refused) => {
+            let refusal = Refusal::from(refused);
+            plain(KIND_REFUSED, refusal.number(), device_told(refused), 0, 0)
+        }
     }
 }
 
 // What the lent buffer holds: the body of an effect, else what it held.
-fn body_of(answer: BusWriteAnswer, told: Snapshot, held: Snapshot) -> Snapshot
-    ensures { result ≡ write_body told held answer }
+fn body_of(answer: Result<BusWriteAnswer, WriteRefusal>, held: Snapshot) -> Snapshot
+    ensures { result ≡ write_body held answer }
 {
     match answer {
-        BusWriteAnswer::Stored => held,
-        BusWriteAnswer::Dropped => held,
-        BusWriteAnswer::Probing(_) => held,
-        BusWriteAnswer::Moved {
-            slot: _,
-            address: _,
-        } => held,
-        BusWriteAnswer::Kept {
-            slot: _,
-            address: _,
-        } => held,
-        BusWriteAnswer::Effect(_) => told,
-        BusWriteAnswer::BadAccess => held,
-        BusWriteAnswer::BadEffect => held,
-        BusWriteAnswer::Exhausted(_) => held,
+        Ok(BusWriteAnswer::Effect { hit: _, body }) => body,
+        _ => held,
     }
 }
 
@@ -83,14 +90,11 @@ fn step(bus: Bus, body: Snapshot, ask: WriteAsk) -> WriteStep
     ensures { result ≡ write_step bus body ask }
 {
     let done = bus::write(bus, ask.device, ask.offset, ask.width, ask.value);
-    let reply = done.reply;
-    let answer = reply.answer;
-    let told = reply.body;
-    let after = done.bus;
+    let answer = done.answer;
     WriteStep {
         result: result_of(answer),
-        body: body_of(answer, told, body),
-        bus: after,
+        body: body_of(answer, body),
+        bus: done.bus,
     }
 }
 

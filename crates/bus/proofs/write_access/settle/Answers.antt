@@ -14,8 +14,8 @@ long c = search (rules, long_unmapped)
 
 pub returns-then-accepted : goal.returns-then-accepted
 returns-then-accepted c =
-    rw (c.comes_to.ensures, c.no_body.ensures, c.finish_at-moved.ensures, function_there c.args.bus c.args.k (long (goal.at.returns-then-accepted c).Start) (omega arith), ← c.accepted_at-accepted.ensures, c.if-accepted.true)
+    rw (c.comes_to.ensures, c.finish_at-moved.ensures, function_there c.args.bus c.args.k (long (goal.at.returns-then-accepted c).Start) (omega arith), ← c.accepted_at-accepted.ensures, c.if-accepted.true)
 
 pub returns : goal.returns
 returns c =
-    rw (c.comes_to-2.ensures, c.no_body-2.ensures, c.finish_at-kept.ensures, function_there c.args.bus c.args.k (long (goal.at.returns c).Start) (omega arith), ← c.accepted_at-accepted.ensures, c.if-accepted.false)
+    rw (c.comes_to-2.ensures, c.finish_at-kept.ensures, function_there c.args.bus c.args.k (long (goal.at.returns c).Start) (omega arith), ← c.accepted_at-accepted.ensures, c.if-accepted.false)

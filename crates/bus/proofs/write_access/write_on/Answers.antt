@@ -3,6 +3,7 @@ use mathlib.Core.Path.{◌≡◌, sym, ap, ◌∙◌}
 use native.Mathlib.Omega.{arith}
 use lib.ListN.{length}
 use borrow.Author.Rules.{rules}
+use Rattle.std.proofs.Common.{Ok}
 use Rattle.word.proofs.Mapped.{long_unmapped}
 use Rattle.address.specs.Limits.{function_room}
 use Rattle.config.specs.declared.write_step.WriteDone.{WriteDone}
@@ -16,31 +17,25 @@ long : (c : Start) → length c.args.bus.functions ≡ function_room
 long c = search (rules, long_unmapped)
 
 -- the definition, on what the step gave
-as_stepped : (c : After-write-step) → let a = c.args in let d = c.write-step.result in written_on a.bus a.k a.offset a.width a.value ≡ stepped_on a.bus a.k d.state d.reply.body d.reply.answer
+as_stepped : (c : After-write-step) → let a = c.args in let d = c.write-step.result in written_on a.bus a.k a.offset a.width a.value ≡ stepped_on a.bus a.k d.state d.answer
 unfolding written_on
 as_stepped c = rw (c.write-step.ensures, function_there c.args.bus c.args.k (long c.before.before) (omega arith))
 
 pub settle-requires : goal.settle-requires
 settle-requires c =
-    (search rules, candidate_slot _ _ _ _ _ _ (ap (λ (d : WriteDone). d.reply.answer) (sym c.write-step.ensures) ∙ c.in-Candidate.is))
+    (search rules, candidate_slot _ _ _ _ _ _ (ap (λ (d : WriteDone). d.answer) (sym c.write-step.ensures) ∙ c.in-Ok.is ∙ ap Ok c.in-Candidate.is))
 
 pub returns-in-Stored : goal.returns-in-Stored
-returns-in-Stored c = rw (c.comes_to.ensures, as_stepped (goal.at.returns-in-Stored c).After-write-step, c.in-Stored.is)
+returns-in-Stored c = rw (c.comes_to.ensures, as_stepped (goal.at.returns-in-Stored c).After-write-step, c.in-Ok.is, c.in-Stored.is)
 
 pub returns-in-Probing : goal.returns-in-Probing
-returns-in-Probing c = rw (c.comes_to-in-Probing.ensures, as_stepped (goal.at.returns-in-Probing c).After-write-step, c.in-Probing.is)
+returns-in-Probing c = rw (c.comes_to-in-Probing.ensures, as_stepped (goal.at.returns-in-Probing c).After-write-step, c.in-Ok.is, c.in-Probing.is)
 
 pub returns-in-Candidate : goal.returns-in-Candidate
-returns-in-Candidate c = c.settle.ensures ∙ rw (as_stepped (goal.at.returns-in-Candidate c).After-write-step, c.in-Candidate.is)
+returns-in-Candidate c = c.settle.ensures ∙ rw (as_stepped (goal.at.returns-in-Candidate c).After-write-step, c.in-Ok.is, c.in-Candidate.is)
 
 pub returns-in-Effect : goal.returns-in-Effect
-returns-in-Effect c = rw (c.comes_to-in-Effect.ensures, as_stepped (goal.at.returns-in-Effect c).After-write-step, c.in-Effect.is, function_there c.args.bus c.args.k (long (goal.at.returns-in-Effect c).Start) (omega arith), put_back c.args.bus c.args.k)
+returns-in-Effect c = rw (c.comes_to-in-Effect.ensures, as_stepped (goal.at.returns-in-Effect c).After-write-step, c.in-Ok.is, c.in-Effect.is, function_there c.args.bus c.args.k (long (goal.at.returns-in-Effect c).Start) (omega arith), put_back c.args.bus c.args.k)
 
-pub returns-in-BadAccess : goal.returns-in-BadAccess
-returns-in-BadAccess c = rw (c.comes_to-in-BadAccess.ensures, as_stepped (goal.at.returns-in-BadAccess c).After-write-step, c.in-BadAccess.is, function_there c.args.bus c.args.k (long (goal.at.returns-in-BadAccess c).Start) (omega arith), put_back c.args.bus c.args.k)
-
-pub returns-in-BadEffect : goal.returns-in-BadEffect
-returns-in-BadEffect c = rw (c.comes_to-in-BadEffect.ensures, as_stepped (goal.at.returns-in-BadEffect c).After-write-step, c.in-BadEffect.is, function_there c.args.bus c.args.k (long (goal.at.returns-in-BadEffect c).Start) (omega arith), put_back c.args.bus c.args.k)
-
-pub returns-in-Exhausted : goal.returns-in-Exhausted
-returns-in-Exhausted c = rw (c.comes_to-in-Exhausted.ensures, as_stepped (goal.at.returns-in-Exhausted c).After-write-step, c.in-Exhausted.is, function_there c.args.bus c.args.k (long (goal.at.returns-in-Exhausted c).Start) (omega arith), put_back c.args.bus c.args.k)
+pub returns-in-Err : goal.returns-in-Err
+returns-in-Err c = rw (c.refused_at.ensures, as_stepped (goal.at.returns-in-Err c).After-write-step, c.in-Err.is, function_there c.args.bus c.args.k (long (goal.at.returns-in-Err c).Start) (omega arith), put_back c.args.bus c.args.k)

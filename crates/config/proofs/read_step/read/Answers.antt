@@ -1,11 +1,12 @@
 -- `read` checks first.
+use borrow.Author.Rules.{rules}
 use Rattle.config.specs.Read.{read_of}
 use Rattle.config.proofs.read_step.read.Goals as goal
 
-pub returns-in-Ok : goal.returns-in-Ok
+pub returns-in_err-access : goal.returns-in_err-access
 unfolding read_of
-returns-in-Ok c = rw (← c.space_of.ensures, ← c.check.ensures, c.in-Ok.is) c.read_good.ensures
+returns-in_err-access c = search rules
 
-pub returns-in-Err : goal.returns-in-Err
+pub returns : goal.returns
 unfolding read_of
-returns-in-Err c = rw (c.no_body.ensures, ← c.space_of.ensures, ← c.check.ensures, c.in-Err.is)
+returns c = rw (← c.space_of.ensures, ← c.check.ensures, c.in_ok-access.was) c.read_good.ensures

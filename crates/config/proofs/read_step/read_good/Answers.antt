@@ -9,7 +9,7 @@ pub returns-then-register : goal.returns-then-register
 returns-then-register c = let a = c.args in
     let v = c.value-at in
     let e : in_bar a.state.bars v.result ≡ true = sym c.in_bar-register.ensures ∙ c.if-register.true in
-    rw (c.no_body.ensures, c.register_bytes.ensures, v.ensures) (sym (read_register a.state a.offset.0 a.width (rw v.ensures at e)))
+    rw (c.register_bytes.ensures, v.ensures) (sym (read_register a.state a.offset.0 a.width (rw v.ensures at e)))
 
 pub returns : goal.returns
 returns c = let a = c.args in

@@ -14,10 +14,10 @@ asked k = k.write.ensures ∙ rw (k.bar_at-bar.ensures, k.slot_at-i.ensures)
 
 pub returns-in-Probe : goal.returns-in-Probe
 returns-in-Probe c = let a = c.args in
-    c.plain.ensures ∙ rw (c.with_bar.ensures, c.set_probe.ensures, c.bar_at-bar.ensures, c.slot_at-i.ensures)
+    c.did.ensures ∙ rw (c.with_bar.ensures, c.set_probe.ensures, c.bar_at-bar.ensures, c.slot_at-i.ensures)
     (sym (step_probe a.state a.offset a.width a.value (sym (asked (goal.at.returns-in-Probe c).After-write) ∙ c.in-Probe.is)))
 
 pub returns-in-Relocate : goal.returns-in-Relocate
 returns-in-Relocate c = let a = c.args in
-    c.plain-in-Relocate.ensures ∙ rw c.slot_at-i.ensures
+    c.did-in-Relocate.ensures ∙ rw c.slot_at-i.ensures
     (sym (step_candidate a.state a.offset a.width a.value _ (sym (asked (goal.at.returns-in-Relocate c).After-write) ∙ c.in-Relocate.is)))

@@ -6,8 +6,8 @@ use Rattle.config.proofs.write_step.store_step.Goals as goal
 
 pub returns-then-kept : goal.returns-then-kept
 returns-then-kept c = let k = c.store_live-kept in
-    c.plain.ensures ∙ rw (k.ensures.1, k.ensures.2, c.if-kept.true) (sym (store_kept _ _ _ _ (not-true _ (sym k.ensures.0 ∙ c.if-kept.true))))
+    c.did.ensures ∙ rw (k.ensures.1, k.ensures.2, c.if-kept.true) (sym (store_kept _ _ _ _ (not-true _ (sym k.ensures.0 ∙ c.if-kept.true))))
 
 pub returns : goal.returns
 returns c = let k = c.store_live-kept in
-    c.plain-2.ensures ∙ sym (store_exhausted _ _ _ _ (not-false _ (sym k.ensures.0 ∙ c.if-kept.false)))
+    c.refused.ensures ∙ sym (store_exhausted _ _ _ _ (not-false _ (sym k.ensures.0 ∙ c.if-kept.false)))

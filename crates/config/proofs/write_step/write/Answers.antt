@@ -8,4 +8,4 @@ returns-in-Ok c = rw (← c.space_of.ensures, ← c.check.ensures, c.in-Ok.is) c
 
 pub returns-in-Err : goal.returns-in-Err
 unfolding write_of
-returns-in-Err c = rw (← c.space_of.ensures, ← c.check.ensures, c.in-Err.is) c.plain.ensures
+returns-in-Err c = rw (← c.space_of.ensures, ← c.check.ensures, c.in-Err.is) c.refused.ensures

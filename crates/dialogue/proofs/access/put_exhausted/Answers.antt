@@ -18,4 +18,4 @@ returns c =
     let p3 = c.put_decimal-number.ensures in
     let p4 = c.put_bytes-word.ensures in
     let a = c.args in
-    (search rules, rw (p1.1, p2.1, p3.1, p4.1, c.from-2.ensures, c.from.ensures) (joined (take a.at a.text.now) (refused_word) (decimal_of refusal.exhausted ∷ column 2 a.device ∷ ended ∷ [])))
+    (search rules, rw (p1.1, p2.1, p3.1, p4.1, c.from-2.ensures, c.from.ensures, c.number.ensures) (joined (take a.at a.text.now) (refused_word) (decimal_of refusal.exhausted ∷ column 2 a.device ∷ ended ∷ [])))

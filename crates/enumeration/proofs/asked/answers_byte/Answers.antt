@@ -4,4 +4,4 @@ use Rattle.enumeration.proofs.asked.answers_byte.Goals as goal
 
 pub returns : goal.returns
 unfolding answers_byte
-returns c = rw (c.is_given.ensures, c.read-reply.ensures)
+returns c = rw (c.is_some.ensures, c.value_at.ensures)

@@ -4,4 +4,4 @@ use Rattle.enumeration.proofs.asked.ask_word.Goals as goal
 
 pub returns : goal.returns
 unfolding asked
-returns c = rw (c.number_of.ensures, c.read-reply.ensures)
+returns c = rw (c.unwrap_or.ensures, c.value_at.ensures)

@@ -2,4 +2,4 @@
 use Rattle.harness.proofs.function.plain_write.Goals as goal
 
 pub returns : goal.returns
-returns c = rw c.none.ensures
+returns c = rw (c.none.ensures, c.no_body.ensures)
