@@ -1,6 +1,6 @@
 -- The numbers of an effect's access: each access has its own, and no other number has one.
 use Prim.Native.Nat.{ℕ}
-use mathlib.Core.Bool.{Bool, true, false, cond, not}
+use mathlib.Core.Bool.{Bool, true, false, cond}
 use mathlib.Core.Logic.{⊎_elim}
 use mathlib.Core.Path.{◌≡◌, refl, sym, ◌∙◌}
 use borrow.Author.Tests.{ne_eqb}
@@ -56,18 +56,3 @@ refused_number n r h write =
     let wrote : n ≡ access_write → ⊥ = λ e. let q : Ok Write ≡ Err r = rw e at h in (cc) in
     let both : n ≡ access_both → ⊥ = λ e. let q : Ok ReadWrite ≡ Err r = rw e at h in (cc) in
     rw (ne_eqb n access_both both) (neither n write (ne_eqb n access_read read) (ne_eqb n access_write wrote))
-
--- what each access allows
-pub allows_read : (write : Bool) → allows write (effect_access_number Read) ≡ not write
-unfolding allows
-allows_read true = refl
-allows_read false = refl
-
-pub allows_write : (write : Bool) → allows write (effect_access_number Write) ≡ write
-unfolding allows
-allows_write true = refl
-allows_write false = refl
-
-pub allows_both : (write : Bool) → allows write (effect_access_number ReadWrite) ≡ true
-unfolding allows
-allows_both write = refl

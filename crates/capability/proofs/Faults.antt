@@ -1,10 +1,10 @@
 -- Refusal 11 is given exactly for one of the five reasons of its row.
-use Prim.Native.Nat.{ℕ, ◌+◌, ◌≤◌}
-use mathlib.Core.Bool.{true, false, ◌||◌, or-true}
+use Prim.Native.Nat.{ℕ, ◌+◌}
+use mathlib.Core.Bool.{true, ◌||◌, or-true}
 use mathlib.Core.List.{List}
 use mathlib.Core.Logic.{⊎_elim}
 use mathlib.Core.Path.{◌≡◌}
-use borrow.Author.Tests.{lt-ltb, le-ltb, ltb-true, eq-eqb, ne_eqb, eqb-true}
+use borrow.Author.Tests.{lt-ltb, ltb-true, eq-eqb, eqb-true}
 use Rattle.word.proofs.Tests.{or_cases}
 use Rattle.capability.specs.Size.{header_size}
 use Rattle.capability.specs.Declaration.{effect_count_of, length_at, latest}

@@ -41,7 +41,7 @@ impl Capability {
         }
     }
 
-    // What stands past the last capability of a list.
+    // What stands past the last capability of a list; the name is a promise.
     pub fn none() -> Capability
         ensures { result ≡ no_capability }
     {

@@ -57,7 +57,7 @@ impl EffectAccess {
 }
 
 impl Effect {
-    // What stands past the last effect of a list.
+    // What stands past the last effect of a list; the name is a promise.
     pub fn none() -> Effect
         ensures { result ≡ no_effect }
     {

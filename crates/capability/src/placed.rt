@@ -12,7 +12,7 @@ pub const CAPABILITY_BODY_MAX_SIZE: usize = 253;
 
 // A capability: where it starts, and how many bytes of body follow its two header bytes.
 #[repr(C)]
-#[derive(Clone, Copy)]
+#[derive(Clone, Copy, Debug, PartialEq, Eq)]
 pub struct PlacedCapability {
     pub id: u8,
     pub offset: ConfigOffset,
@@ -32,7 +32,7 @@ pub struct PlacedEffect {
 
 // Those of a function; what lies past a count is blank. C reads this layout, and there is no heap.
 #[repr(C)]
-#[derive(Clone, Copy)]
+#[derive(Clone, Copy, Debug, PartialEq, Eq)]
 pub struct Placed {
     pub capabilities: [PlacedCapability; CAPABILITY_LIMIT],
     pub count: usize,
@@ -41,7 +41,7 @@ pub struct Placed {
 }
 
 impl PlacedCapability {
-    // What stands past the last capability.
+    // What stands past the last capability; the name is a promise.
     pub fn none() -> PlacedCapability
         ensures { result ≡ no_placed_capability }
     {
@@ -54,7 +54,7 @@ impl PlacedCapability {
 }
 
 impl PlacedEffect {
-    // What stands past the last effect.
+    // What stands past the last effect; the name is a promise.
     pub fn none() -> PlacedEffect
         ensures { result ≡ no_placed_effect }
     {

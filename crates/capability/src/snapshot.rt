@@ -8,7 +8,7 @@ use crate::placed::{CAPABILITY_BODY_MAX_SIZE, CAPABILITY_HEADER_SIZE, Placed};
 
 // `length` bytes of a body; what lies past them is zero. C reads this layout.
 #[repr(C)]
-#[derive(Clone, Copy)]
+#[derive(Clone, Copy, Debug, PartialEq, Eq)]
 pub struct Snapshot {
     pub length: u8,
     pub bytes: [u8; CAPABILITY_BODY_MAX_SIZE],

@@ -8,7 +8,7 @@ use crate::snapshot::{Snapshot, body_length, body_start, copy_of};
 
 // What a view shows, copied. A flag and counts: C reads this layout.
 #[repr(C)]
-#[derive(Clone, Copy)]
+#[derive(Clone, Copy, Debug, PartialEq, Eq)]
 pub struct ViewCopy {
     pub found: bool,
     pub body: Snapshot,
