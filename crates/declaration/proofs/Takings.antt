@@ -1,14 +1,14 @@
--- What a field does, check by check: the refusal of the first that fails, in document 01's order, or the declaration with the field.
+-- What a field does by the answers of the constructors below: the refusal of the first check that fails, or the declaration with the field.
 use Prim.Native.Nat.{ℕ, ◌<◌, ◌≤◌}
 use mathlib.Core.Bool.{true, false}
 use mathlib.Core.List.{List}
 use mathlib.Core.Path.{◌≡◌}
 use native.Mathlib.Omega.{arith}
-use borrow.Author.Tests.{lt-ltb, le-ltb, le-leb, lt-leb, eq-eqb, ne_eqb}
+use borrow.Author.Tests.{lt-ltb, le-ltb, le-leb, lt-leb}
 use lib.Dec.{ltb}
 use Rattle.std.specs.Prelude.{is_some, Ok, Err}
 use Rattle.refusal.specs.declared.refusal.Refusal.{Refusal}
-use Rattle.refusal.specs.declared.refusal.Refusal.TheVariants.{OutOfOrder, AboveLimit, BadDeviceOrSlot, AbsentVendor, BadEffect}
+use Rattle.refusal.specs.declared.refusal.Refusal.TheVariants.{OutOfOrder, AboveLimit, BadDeviceOrSlot, BadEffect}
 use Rattle.word.specs.Search.{all_below}
 use Rattle.address.specs.Layout.{bar_count}
 use Rattle.address.specs.Limits.{Limits}
@@ -25,8 +25,7 @@ use Rattle.capability.specs.Size.{body_most}
 use Rattle.capability.specs.BadEffect.{effect_bad}
 use Rattle.capability.specs.Declaration.{capability_of}
 use Rattle.capability.specs.declared.effect.EffectAccess.{EffectAccess}
-use Rattle.config.specs.declared.function.Identity.{Identity}
-use Rattle.declaration.specs.Standing.{slot_used, device_bad}
+use Rattle.declaration.specs.Standing.{slot_used}
 use Rattle.declaration.specs.Take.{with_field, taken_said, taken_of}
 use Rattle.declaration.specs.declared.said.Said.TheVariants as said
 use Rattle.declaration.specs.declared.so_far.SoFar.{SoFar}
@@ -35,44 +34,14 @@ use Rattle.declaration.proofs.Made.{capability_refused}
 use Rattle.declaration.proofs.Saids.{said_refusal}
 
 -- an aperture
-module _ (l : Limits) (s : SoFar) (start end : ℕ) (body : List ℕ) where
-  pub aperture_repeated : is_some s.aperture ≡ true → taken_said l s (Ok (said.Aperture start end)) body ≡ Err OutOfOrder
+module _ (l : Limits) (s : SoFar) (start end : ℕ) (body : List ℕ) (h : is_some s.aperture ≡ false) where
+  pub aperture_not_taken : (r : Refusal) → aperture_of four_gib start end ≡ Err r → taken_said l s (Ok (said.Aperture start end)) body ≡ Err r
   unfolding taken_said
-  aperture_repeated h = rw h
+  aperture_not_taken r e = rw (h, (aperture_refused four_gib start end r e).1, (aperture_refused four_gib start end r e).0)
 
-  module _ (h : is_some s.aperture ≡ false) where
-    pub aperture_not_taken : (r : Refusal) → aperture_of four_gib start end ≡ Err r → taken_said l s (Ok (said.Aperture start end)) body ≡ Err r
-    unfolding taken_said
-    aperture_not_taken r e = rw (h, (aperture_refused four_gib start end r e).1, (aperture_refused four_gib start end r e).0)
-
-    pub aperture_taken : (a : Aperture) → aperture_of four_gib start end ≡ Ok a → taken_said l s (Ok (said.Aperture start end)) body ≡ Ok (with_field s (said.Aperture start end) body)
-    unfolding taken_said
-    aperture_taken a e = let r = aperture_is four_gib start end a e in rw (h, lt-ltb start end r.1, le-leb end four_gib r.2)
-
--- a function
-module _ (l : Limits) (s : SoFar) (device : ℕ) (identity : Identity) (body : List ℕ) where
-  pub function_early : is_some s.aperture ≡ false → taken_said l s (Ok (said.Function device identity)) body ≡ Err OutOfOrder
+  pub aperture_taken : (a : Aperture) → aperture_of four_gib start end ≡ Ok a → taken_said l s (Ok (said.Aperture start end)) body ≡ Ok (with_field s (said.Aperture start end) body)
   unfolding taken_said
-  function_early h = rw h
-
-  module _ (h : is_some s.aperture ≡ true) where
-    pub function_above : l.functions ≤ s.count → taken_said l s (Ok (said.Function device identity)) body ≡ Err AboveLimit
-    unfolding taken_said
-    function_above n = rw (h, le-leb l.functions s.count n)
-
-    module _ (n : s.count < l.functions) where
-      pub function_bad_device : device_bad s device ≡ true → taken_said l s (Ok (said.Function device identity)) body ≡ Err BadDeviceOrSlot
-      unfolding taken_said
-      function_bad_device d = rw (d, h, lt-leb l.functions s.count n)
-
-      module _ (d : device_bad s device ≡ false) where
-        pub function_absent : identity.vendor ≡ 0xffff → taken_said l s (Ok (said.Function device identity)) body ≡ Err AbsentVendor
-        unfolding taken_said
-        function_absent v = rw (d, h, lt-leb l.functions s.count n, eq-eqb identity.vendor 0xffff v)
-
-        pub function_taken : (identity.vendor ≡ 0xffff → ⊥) → taken_said l s (Ok (said.Function device identity)) body ≡ Ok (with_field s (said.Function device identity) body)
-        unfolding taken_said
-        function_taken v = rw (d, h, lt-leb l.functions s.count n, ne_eqb identity.vendor 0xffff v)
+  aperture_taken a e = let r = aperture_is four_gib start end a e in rw (h, lt-ltb start end r.1, le-leb end four_gib r.2)
 
 -- a function is there
 present : (s : SoFar) → (s.count ≡ 0 → ⊥) → ltb 0 s.count ≡ true
@@ -81,65 +50,25 @@ present s h = lt-ltb 0 s.count (omega arith)
 none : (s : SoFar) → s.count ≡ 0 → ltb 0 s.count ≡ false
 none s h = le-ltb 0 s.count (omega arith)
 
--- an INTx
-module _ (l : Limits) (s : SoFar) (pin line : ℕ) (body : List ℕ) where
-  pub intx_early : s.count ≡ 0 → taken_said l s (Ok (said.Intx pin line)) body ≡ Err OutOfOrder
-  unfolding taken_said
-  intx_early h = rw (none s h)
-
-  module _ (h : s.count ≡ 0 → ⊥) where
-    pub intx_repeated : is_some s.function.contents.intx ≡ true → taken_said l s (Ok (said.Intx pin line)) body ≡ Err OutOfOrder
-    unfolding taken_said
-    intx_repeated e = rw (present s h, e)
-
-    pub intx_taken : is_some s.function.contents.intx ≡ false → taken_said l s (Ok (said.Intx pin line)) body ≡ Ok (with_field s (said.Intx pin line) body)
-    unfolding taken_said
-    intx_taken e = rw (present s h, e)
-
 -- a BAR
-module _ (l : Limits) (s : SoFar) (k size : ℕ) (request : Request) (body : List ℕ) where
-  pub bar_early : s.count ≡ 0 → taken_said l s (Ok (said.Bar k size request)) body ≡ Err OutOfOrder
+module _ (l : Limits) (s : SoFar) (k size : ℕ) (request : Request) (body : List ℕ) (h : s.count ≡ 0 → ⊥) (a : all_below (slot_used s.function) bar_count ≡ false) where
+  pub bar_no_slot : (r : Refusal) → slot_of k ≡ Err r → taken_said l s (Ok (said.Bar k size request)) body ≡ Err r
   unfolding taken_said
-  bar_early h = rw (none s h)
+  bar_no_slot r e = let q = slot_refused k r e in rw (present s h, a, le-leb bar_count k q.1, q.0)
 
-  module _ (h : s.count ≡ 0 → ⊥) where
-    pub bar_above : all_below (slot_used s.function) bar_count ≡ true → taken_said l s (Ok (said.Bar k size request)) body ≡ Err AboveLimit
+  module _ (b : k < bar_count) where
+    pub bar_used : slot_used s.function k ≡ true → taken_said l s (Ok (said.Bar k size request)) body ≡ Err BadDeviceOrSlot
     unfolding taken_said
-    bar_above a = rw (present s h, a)
+    bar_used u = rw (present s h, a, lt-leb bar_count k b, u)
 
-    module _ (a : all_below (slot_used s.function) bar_count ≡ false) where
-      pub bar_no_slot : (r : Refusal) → slot_of k ≡ Err r → taken_said l s (Ok (said.Bar k size request)) body ≡ Err r
+    module _ (u : slot_used s.function k ≡ false) where
+      pub bar_bad_size : (i : Slot) (r : Refusal) → bar_of i size request ≡ Err r → taken_said l s (Ok (said.Bar k size request)) body ≡ Err r
       unfolding taken_said
-      bar_no_slot r e = let q = slot_refused k r e in rw (present s h, a, le-leb bar_count k q.1, q.0)
+      bar_bad_size i r e = let q = bar_refused i size request r e in rw (present s h, a, lt-leb bar_count k b, u, q.1, q.0)
 
-      module _ (b : k < bar_count) where
-        pub bar_used : slot_used s.function k ≡ true → taken_said l s (Ok (said.Bar k size request)) body ≡ Err BadDeviceOrSlot
-        unfolding taken_said
-        bar_used u = rw (present s h, a, lt-leb bar_count k b, u)
-
-        module _ (u : slot_used s.function k ≡ false) where
-          pub bar_bad_size : (i : Slot) (r : Refusal) → bar_of i size request ≡ Err r → taken_said l s (Ok (said.Bar k size request)) body ≡ Err r
-          unfolding taken_said
-          bar_bad_size i r e = let q = bar_refused i size request r e in rw (present s h, a, lt-leb bar_count k b, u, q.1, q.0)
-
-          pub bar_taken : size_ok size ≡ true → taken_said l s (Ok (said.Bar k size request)) body ≡ Ok (with_field s (said.Bar k size request) body)
-          unfolding taken_said
-          bar_taken e = rw (present s h, a, lt-leb bar_count k b, u, e)
-
--- a config byte
-module _ (l : Limits) (s : SoFar) (o value mask : ℕ) (body : List ℕ) where
-  pub byte_early : s.count ≡ 0 → taken_said l s (Ok (said.ConfigByte o value mask)) body ≡ Err OutOfOrder
-  unfolding taken_said
-  byte_early h = rw (none s h)
-
-  module _ (h : s.count ≡ 0 → ⊥) where
-    pub byte_above : l.config_bytes ≤ s.function.contents.byte_count → taken_said l s (Ok (said.ConfigByte o value mask)) body ≡ Err AboveLimit
-    unfolding taken_said
-    byte_above n = rw (present s h, le-leb l.config_bytes s.function.contents.byte_count n)
-
-    pub byte_taken : s.function.contents.byte_count < l.config_bytes → taken_said l s (Ok (said.ConfigByte o value mask)) body ≡ Ok (with_field s (said.ConfigByte o value mask) body)
-    unfolding taken_said
-    byte_taken n = rw (present s h, lt-leb l.config_bytes s.function.contents.byte_count n)
+      pub bar_taken : size_ok size ≡ true → taken_said l s (Ok (said.Bar k size request)) body ≡ Ok (with_field s (said.Bar k size request) body)
+      unfolding taken_said
+      bar_taken e = rw (present s h, a, lt-leb bar_count k b, u, e)
 
 -- a capability
 module _ (l : Limits) (s : SoFar) (id n : ℕ) (body : List ℕ) where
@@ -163,10 +92,6 @@ module _ (l : Limits) (s : SoFar) (id n : ℕ) (body : List ℕ) where
 
 -- an effect
 module _ (l : Limits) (s : SoFar) (id o w : ℕ) (access : EffectAccess) (body : List ℕ) where
-  pub effect_early : s.count ≡ 0 → taken_said l s (Ok (said.Effect id o w access)) body ≡ Err OutOfOrder
-  unfolding taken_said
-  effect_early h = rw (none s h)
-
   module _ (h : s.count ≡ 0 → ⊥) where
     pub effect_unowned : s.function.capabilities.count ≡ 0 → taken_said l s (Ok (said.Effect id o w access)) body ≡ Err OutOfOrder
     unfolding taken_said

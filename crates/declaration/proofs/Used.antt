@@ -1,38 +1,13 @@
--- The steps of two searches: whether a device is declared, and whether every slot has a BAR.
+-- The steps of a search: whether every slot has a BAR.
 use Prim.Native.Nat.{ℕ, ◌+◌, ◌<◌}
 use mathlib.Core.Bool.{Bool, true, false}
 use mathlib.Core.Logic.{⊎_elim}
 use mathlib.Core.Path.{◌≡◌}
 use native.Mathlib.Nat.{eq-or-lt_of_le}
 use native.Mathlib.Omega.{arith}
-use borrow.Author.Tests.{eq-eqb, ne_eqb}
-use lib.Dec.{eqb}
-use lib.ListN.{get_or}
-use Rattle.word.specs.Search.{any_below, all_below}
+use Rattle.word.specs.Search.{all_below}
 use Rattle.word.proofs.Tests.{both, never}
-use Rattle.word.proofs.Searches.{any_none, any_more, any_found, all_each, each_all}
-use Rattle.declaration.specs.Standing.{device_used}
-use Rattle.declaration.specs.declared.so_far.SoFar.{SoFar}
-
--- the device at index k is d
-abbrev pub is_device : SoFar → ℕ → ℕ → Bool
-is_device s d k = eqb (get_or s.devices k 0) d
-
--- none of the first i is
-module _ (s : SoFar) (d : ℕ) where
-  pub device_none : any_below (is_device s d) 0 ≡ false
-  device_none = any_none (is_device s d)
-
-  pub device_more : (i : ℕ) → any_below (is_device s d) i ≡ false → (get_or s.devices i 0 ≡ d → ⊥) → any_below (is_device s d) (i + 1) ≡ false
-  device_more i e h = any_more (is_device s d) i e (ne_eqb (get_or s.devices i 0) d h)
-
-  pub device_found : (i : ℕ) → i < s.count → get_or s.devices i 0 ≡ d → device_used s d ≡ true
-  unfolding device_used
-  device_found i h e = any_found (is_device s d) i s.count h (eq-eqb (get_or s.devices i 0) d e)
-
-  pub device_not : (i : ℕ) → i ≡ s.count → any_below (is_device s d) i ≡ false → device_used s d ≡ false
-  unfolding device_used
-  device_not i q e = rw q at e
+use Rattle.word.proofs.Searches.{all_each, each_all}
 
 -- p holds of the first i
 module _ (p : ℕ → Bool) where

@@ -34,6 +34,7 @@ fn opened_at(
 }
 
 impl Finished {
+    #[tactic(auto, unfolding(crate::specs::Finished::none_finished))]
     pub(crate) fn new() -> Finished
         ensures { result ≡ none_finished }
     {
@@ -59,6 +60,7 @@ impl Finished {
     }
 
     // With one more function.
+    #[tactic(auto, unfolding(crate::specs::Finished::finished_with))]
     pub(crate) fn with(self, function: Function) -> Finished
         ensures { result ≡ finished_with self function }
     {
@@ -75,6 +77,7 @@ impl Finished {
     }
 
     // With the latest function of what is declared so far, where there is one.
+    #[tactic(auto, unfolding(crate::specs::Finished::finished_so_far))]
     pub(crate) fn with_latest(self, so_far: SoFar) -> Finished
         ensures { result ≡ finished_so_far self so_far }
     {

@@ -84,10 +84,7 @@ fn say_intx(body: &[u8]) -> Result<Said, Refusal>
     ensures { result ≡ intx_said body.now }
 {
     let pin = word::byte_at(body, 0);
-    if pin < 1 {
-        return Err(Refusal::BadForm);
-    }
-    if 4 < pin {
+    if pin < 1 || 4 < pin {
         return Err(Refusal::BadForm);
     }
     Ok(Said::Intx {

@@ -18,6 +18,7 @@ pub struct SoFar {
     pub mask: [u8; CAPABILITY_BODY_MAX_SIZE],
 }
 
+#[tactic(auto, unfolding(crate::specs::Blank::empty_contents))]
 fn no_contents(identity: Identity) -> Contents
     ensures { result ≡ empty_contents identity }
 {
@@ -37,6 +38,7 @@ fn no_contents(identity: Identity) -> Contents
 }
 
 // A function with a device and an identity, and nothing else declared of it.
+#[tactic(auto, unfolding(crate::specs::Blank::empty_function))]
 pub(crate) fn empty_function(device: u8, identity: Identity) -> Function
     ensures { result ≡ empty_function device identity }
 {
@@ -71,6 +73,7 @@ pub(crate) fn no_function() -> Function
     empty_function(0, no_identity())
 }
 
+#[tactic(auto, unfolding(crate::specs::Blank::no_mask))]
 pub(crate) fn no_mask() -> [u8; CAPABILITY_BODY_MAX_SIZE]
     ensures { result ≡ no_mask }
 {
@@ -79,6 +82,7 @@ pub(crate) fn no_mask() -> [u8; CAPABILITY_BODY_MAX_SIZE]
 
 impl SoFar {
     // Before the first field.
+    #[tactic(auto, unfolding(crate::specs::Blank::nothing_so_far))]
     pub fn new() -> SoFar
         ensures { result ≡ nothing_so_far }
     {

@@ -15,6 +15,7 @@ use refusal::Refusal;
 const MOST_DEVICE: u8 = 31;
 
 impl SoFar {
+    #[tactic(auto, unfolding(crate::specs::Take::taken_said))]
     pub(crate) fn take_aperture(self, start: u64, end: u64) -> Result<SoFar, Refusal>
         ensures { result ≡ taken_said limits self (Ok (Said.Aperture start end)) [] }
     {
@@ -32,12 +33,7 @@ impl SoFar {
         requires { self.count ≤ function_room }
         ensures { result ≡ device_used self device }
     {
-        for i in 0..self.count {
-            if self.devices[i] == device {
-                return true;
-            }
-        }
-        false
+        self.devices[..self.count].contains(&device)
     }
 
     // Whether it is above the highest, or declared.
@@ -45,12 +41,10 @@ impl SoFar {
         requires { self.count ≤ function_room }
         ensures { result ≡ device_bad self device }
     {
-        if MOST_DEVICE < device {
-            return true;
-        }
-        self.device_used(device)
+        MOST_DEVICE < device || self.device_used(device)
     }
 
+    #[tactic(auto, unfolding(crate::specs::Take::taken_said))]
     pub(crate) fn take_function(self, device: u8, identity: Identity) -> Result<SoFar, Refusal>
         ensures { result ≡ taken_said limits self (Ok (Said.Function device identity)) [] }
     {
@@ -62,8 +56,7 @@ impl SoFar {
         if FUNCTION_LIMIT <= i {
             return Err(Refusal::AboveLimit);
         }
-        let bad = self.device_bad(device);
-        if bad {
+        if self.device_bad(device) {
             return Err(Refusal::BadDeviceOrSlot);
         }
         if vendor == config_layout::ABSENT_VENDOR_ID {

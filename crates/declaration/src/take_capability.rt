@@ -81,6 +81,7 @@ impl SoFar {
         Ok(out)
     }
 
+    #[tactic(auto, unfolding(crate::specs::Take::taken_said))]
     pub(crate) fn take_effect(
         self,
         id: u16,

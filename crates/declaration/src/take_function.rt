@@ -30,8 +30,7 @@ fn slots_used(function: Function) -> bool
     ensures { result ≡ all_below (slot_used function) bar_count }
 {
     for i in 0..BAR_SLOTS {
-        let used = slot_used(function, i);
-        if !used {
+        if !slot_used(function, i) {
             return false;
         }
     }
@@ -48,6 +47,7 @@ impl SoFar {
         out
     }
 
+    #[tactic(auto, unfolding(crate::specs::Take::taken_said))]
     pub(crate) fn take_intx(self, pin: u8, line: u8) -> Result<SoFar, Refusal>
         ensures { result ≡ taken_said limits self (Ok (Said.Intx pin line)) [] }
     {
@@ -67,6 +67,7 @@ impl SoFar {
         Ok(self.with_function(function))
     }
 
+    #[tactic(auto, unfolding(crate::specs::Take::taken_said))]
     pub(crate) fn take_bar(self, slot: u8, size: u64, request: Request) -> Result<SoFar, Refusal>
         ensures { result ≡ taken_said limits self (Ok (Said.Bar slot size request)) [] }
     {
@@ -74,14 +75,12 @@ impl SoFar {
             return Err(Refusal::OutOfOrder);
         }
         let mut function = self.function;
-        let full = slots_used(function);
-        if full {
+        if slots_used(function) {
             return Err(Refusal::AboveLimit);
         }
         let at = Slot::new(slot)?;
         let i = at.index();
-        let used = slot_used(function, i);
-        if used {
+        if slot_used(function, i) {
             return Err(Refusal::BadDeviceOrSlot);
         }
         let bar = MemoryBar::new(at, size, request)?;
@@ -89,6 +88,7 @@ impl SoFar {
         Ok(self.with_function(function))
     }
 
+    #[tactic(auto, unfolding(crate::specs::Take::taken_said))]
     pub(crate) fn take_config_byte(self, offset: u8, value: u8, mask: u8) -> Result<SoFar, Refusal>
         ensures { result ≡ taken_said limits self (Ok (Said.ConfigByte offset value mask)) [] }
     {

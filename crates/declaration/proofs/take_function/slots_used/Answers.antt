@@ -7,8 +7,8 @@ use Rattle.declaration.proofs.take_function.slots_used.Goals as goal
 pub loop-i-init : goal.loop-i-init
 loop-i-init c = all_none _
 
-pub returns-then-not-used : goal.returns-then-not-used
-returns-then-not-used c = sym (all_not _ c.loop-i.i bar_count (omega arith) (sym c.slot_used-used.ensures ∙ c.if-not-used.true))
+pub returns-then-not-slot_used : goal.returns-then-not-slot_used
+returns-then-not-slot_used c = sym (all_not _ c.loop-i.i bar_count (omega arith) (sym c.slot_used.ensures ∙ c.if-not-slot_used.true))
 
 pub loop-i-preserved : goal.loop-i-preserved
-loop-i-preserved c = all_more _ _ c.loop-i.invariant (sym c.slot_used-used.ensures ∙ c.if-not-used.false)
+loop-i-preserved c = all_more _ _ c.loop-i.invariant (sym c.slot_used.ensures ∙ c.if-not-slot_used.false)

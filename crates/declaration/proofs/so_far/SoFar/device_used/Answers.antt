@@ -1,16 +1,18 @@
-use mathlib.Core.Path.{sym}
+-- `device_used` is the library's `contains`.
+use mathlib.Core.Path.{◌≡◌, ◌∙◌}
 use native.Mathlib.Omega.{arith}
-use Rattle.declaration.proofs.Used.{device_none, device_more, device_found, device_not}
+use borrow.Author.Rules.{rules}
+use lib.Dec.{eqb}
+use lib.ListN.{length}
+use Rattle.word.proofs.Listed.{any_taken}
+use Rattle.word.proofs.Mapped.{long_unmapped}
+use Rattle.address.specs.Limits.{function_room}
+use Rattle.declaration.specs.Standing.{device_used}
 use Rattle.declaration.proofs.so_far.SoFar.device_used.Goals as goal
 
-pub loop-i-init : goal.loop-i-init
-loop-i-init c = device_none c.args.self c.args.device
-
-pub returns-then-self-i : goal.returns-then-self-i
-returns-then-self-i c = let a = c.args in sym (device_found a.self a.device c.loop-i.i (omega arith) c.if-self-i.true)
-
-pub loop-i-preserved : goal.loop-i-preserved
-loop-i-preserved c = let a = c.args in device_more a.self a.device c.loop-i.i c.loop-i.invariant c.if-self-i.false
-
 pub returns : goal.returns
-returns c = let a = c.args in sym (device_not a.self a.device c.loop-i.i (omega arith) c.loop-i.invariant)
+unfolding device_used
+returns c =
+    let a = c.args in
+    let long : length a.self.devices ≡ function_room = search (rules, long_unmapped) in
+    c.contains.ensures.value ∙ any_taken (λ x. eqb x a.device) 0 a.self.devices a.self.count (omega arith)

@@ -4,11 +4,8 @@ use mathlib.Core.Path.{sym, ◌∙◌}
 use borrow.Author.Rules.{rules}
 use Rattle.address.specs.Limits.{limits}
 use Rattle.bar.proofs.Ranges.{aperture_is}
-use Rattle.declaration.proofs.Takings.{aperture_repeated, aperture_not_taken, aperture_taken}
+use Rattle.declaration.proofs.Takings.{aperture_not_taken, aperture_taken}
 use Rattle.declaration.proofs.so_far.SoFar.take_aperture.Goals as goal
-
-pub returns-then-is_some : goal.returns-then-is_some
-returns-then-is_some c = let a = c.args in sym (aperture_repeated limits a.self a.start a.end [] (sym c.is_some.ensures ∙ c.if-is_some.true))
 
 pub returns-in_err-aperture : goal.returns-in_err-aperture
 returns-in_err-aperture c =

@@ -1,14 +1,9 @@
 -- `take_effect` goes by the answer of the layer below.
 use mathlib.Core.List.{[]}
-use mathlib.Core.Path.{sym}
 use borrow.Author.Rules.{rules}
 use Rattle.address.specs.Limits.{limits}
 use Rattle.declaration.proofs.Adds.{effect_step}
-use Rattle.declaration.proofs.Takings.{effect_early}
 use Rattle.declaration.proofs.so_far.SoFar.take_effect.Goals as goal
-
-pub returns-then-self-eq0 : goal.returns-then-self-eq0
-returns-then-self-eq0 c = let a = c.args in sym (effect_early limits a.self a.id a.offset a.length a.access [] c.if-self-eq0.true)
 
 pub returns-in_err-with : goal.returns-in_err-with
 returns-in_err-with c =
