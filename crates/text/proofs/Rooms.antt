@@ -24,10 +24,3 @@ room_short length at room h = lt-leb (at + room) length (omega arith)
 pub room_rest : (length at room : ℕ) → room ≤ length → leb at (length - room) ≡ leb (at + room) length
 room_rest length at room h =
     same_test (leb at (length - room)) (leb (at + room) length) (λ t. le-leb (at + room) length (omega (arith, leb-true at (length - room) t))) (λ t. le-leb at (length - room) (omega (arith, leb-true (at + room) length t)))
-
-module _ (before : List ℕ) (at room : ℕ) (part : List ℕ) where
-  pub written_there : (after : List ℕ) (r : ℕ) → at + room ≤ length before → r ≤ at + room → take r after ≡ take at before ++ part → Written before at room part after r
-  written_there after r h l e = (λ _. (l, e), λ m. absurd (omega arith))
-
-  pub written_not : length before < at + room → Written before at room part before at
-  written_not h = (λ m. absurd (omega arith), λ _. (refl, refl))

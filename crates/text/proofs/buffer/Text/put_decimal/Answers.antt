@@ -4,13 +4,7 @@ use native.Mathlib.Omega.{arith}
 use borrow.Author.Rules.{rules}
 use Rattle.text.specs.Numeral.{decimal_of}
 use Rattle.text.proofs.Numerals.{decimal_few, decimal_places}
-use Rattle.text.proofs.numeral.put_decimal.Goals as goal
-
-pub put_bytes-requires : goal.put_bytes-requires
-put_bytes-requires c =
-    let d = c.decimal-count in
-    let few = decimal_few c.args.value d.result d.ensures.len (search rules) in
-    omega (arith, d.ensures.in_bounds)
+use Rattle.text.proofs.buffer.Text.put_decimal.Goals as goal
 
 pub returns : goal.returns
 unfolding decimal_of
@@ -20,4 +14,9 @@ returns c =
     let few = decimal_few a.value d.result d.ensures.len (search rules) in
     let e = decimal_places a.value d.result d.ensures.len (search rules) in
     let p = c.put_bytes.ensures in
-    (omega (arith, p.0, d.ensures.in_bounds, few), p.1 ∙ rw (d.ensures.digits, e))
+    record {
+      end = omega (arith, p.end, d.ensures.in_bounds, few);
+      lent = p.lent;
+      long = p.long;
+      text = p.text ∙ rw (d.ensures.digits, e);
+    }
