@@ -1,10 +1,11 @@
 // A line's answer, and the bus after it.
-ghost use Rattle.std.specs.Prelude.{◌≡◌, ◌++◌, ◌+◌, ◌≤◌, length, take};
+ghost use Rattle.std.specs.Prelude.{◌≡◌};
+ghost use Rattle.text.specs.Part.{Room, Put};
 ghost use Rattle.text.specs.Text.{Holds};
 ghost use Rattle.command.specs.Command.{command_of};
 ghost use Rattle.dialogue.specs.Access.{write_text, reset_text};
 ghost use Rattle.dialogue.specs.Report.{report_text};
-ghost use Rattle.dialogue.specs.Answer.{unknown_text, unknown_room, answer_room, answer_text, bus_after, Told};
+ghost use Rattle.dialogue.specs.Answer.{unknown_text, unknown_room, answer_room, answer_text, bus_after};
 ghost use Rattle.bus.specs.Access.{bus_write_of};
 ghost use Rattle.bus.specs.Reset.{bus_reset_of};
 ghost use Rattle.enumeration.specs.Enumerate.{enumerate_of};
@@ -16,6 +17,7 @@ use crate::report::{put_report, put_revision};
 use address::limits::FUNCTION_LIMIT;
 use bus::Bus;
 use command::{Command, command_of};
+use text::Text;
 
 // The longest answer: a dump of every function, 24 bytes, 16 lines of 52 and an empty line each.
 pub const ANSWER_ROOM: usize = FUNCTION_LIMIT * (24 + 16 * 52 + 1);
@@ -30,101 +32,90 @@ pub struct Answered {
     pub bus: Bus,
 }
 
-fn put_unknown(text: &mut [u8], at: usize, line: &[u8]) -> usize
-    requires { at + unknown_room ≤ length text.old }
-    ensures { (result ≤ at + unknown_room) × (take result text.new ≡ take at text.old ++ unknown_text line.now) }
+#[tactic(auto, unfolding(crate::specs::Answer::unknown_text))]
+fn put_unknown(text: &mut Text<'_>, line: &[u8])
+    requires { Room text.old unknown_room }
+    ensures { Put text.old text.new unknown_room (unknown_text line.now) }
 {
-    let mark = put_bytes(text, at, b"? ");
-    let line = put_bytes(text, mark, word::part(line, 0, LINE_MOST));
-    put_bytes(text, line, b"\n")
+    put_bytes(text, b"? ");
+    put_bytes(text, word::part(line, 0, LINE_MOST));
+    put_bytes(text, b"\n");
 }
 
 fn answer_write(
-    text: &mut [u8],
+    text: &mut Text<'_>,
     bus: Bus,
     device: usize,
     offset: usize,
     width: usize,
     value: u64,
-) -> Answered
-    requires { answer_room ≤ length text.old }
-    ensures { Told text.new result (write_text (bus_write_of bus device offset width value).answer) (bus_write_of bus device offset width value).bus }
+) -> Bus
+    requires { Room text.old answer_room }
+    ensures told { Put text.old text.new answer_room (write_text (bus_write_of bus device offset width value).answer) }
+    ensures after { result ≡ (bus_write_of bus device offset width value).bus }
 {
     let done = bus::write(bus, device, offset, width, value);
-    Answered {
-        length: put_write(text, 0, done.answer),
-        bus: done.bus,
-    }
+    put_write(text, done.answer);
+    done.bus
 }
 
-fn answer_reset(text: &mut [u8], bus: Bus) -> Answered
-    requires { answer_room ≤ length text.old }
-    ensures { Told text.new result (reset_text (bus_reset_of bus).answer) (bus_reset_of bus).bus }
+fn answer_reset(text: &mut Text<'_>, bus: Bus) -> Bus
+    requires { Room text.old answer_room }
+    ensures told { Put text.old text.new answer_room (reset_text (bus_reset_of bus).answer) }
+    ensures after { result ≡ (bus_reset_of bus).bus }
 {
     let done = bus::reset(bus);
-    Answered {
-        length: put_reset(text, 0, done.answer),
-        bus: done.bus,
-    }
+    put_reset(text, done.answer);
+    done.bus
 }
 
-fn answer_enumerate(text: &mut [u8], bus: Bus, device: usize) -> Answered
-    requires { answer_room ≤ length text.old }
-    ensures { Told text.new result (report_text device (enumerate_of bus device).report) (enumerate_of bus device).bus }
+fn answer_enumerate(text: &mut Text<'_>, bus: Bus, device: usize) -> Bus
+    requires { Room text.old answer_room }
+    ensures told { Put text.old text.new answer_room (report_text device (enumerate_of bus device).report) }
+    ensures after { result ≡ (enumerate_of bus device).bus }
 {
     let done = enumeration::enumerate(bus, device);
     let report = done.report;
-    let after = done.bus;
-    Answered {
-        length: put_report(text, 0, device, report),
-        bus: after,
-    }
+    put_report(text, device, report);
+    done.bus
 }
 
-// The answer to a command; the line is shown where it is not known.
-fn answer_command(text: &mut [u8], line: &[u8], bus: Bus, asked: Command) -> Answered
-    requires { answer_room ≤ length text.old }
-    ensures { Told text.new result (answer_text bus line.now asked) (bus_after bus asked) }
+// Answers a command, and gives the bus after it; the line is shown where it is not known.
+fn answer_command(text: &mut Text<'_>, line: &[u8], bus: Bus, asked: Command) -> Bus
+    requires { Room text.old answer_room }
+    ensures told { Put text.old text.new answer_room (answer_text bus line.now asked) }
+    ensures after { result ≡ bus_after bus asked }
 {
     match asked {
         Command::Read {
             device,
             offset,
             width,
-        } => Answered {
-            length: put_read(text, 0, width, bus::read(bus, device, offset, width)),
-            bus,
-        },
+        } => put_read(text, width, bus::read(bus, device, offset, width)),
         Command::Write {
             device,
             offset,
             width,
             value,
-        } => answer_write(text, bus, device, offset, width, value),
-        Command::Lookup { address, width } => Answered {
-            length: put_lookup(text, 0, bus::lookup(bus, address, width)),
-            bus,
-        },
-        Command::Reset => answer_reset(text, bus),
-        Command::Enumerate(device) => answer_enumerate(text, bus, device),
-        Command::Revision(device) => Answered {
-            length: put_revision(text, 0, bus, device),
-            bus,
-        },
-        Command::Dump => Answered {
-            length: put_dump(text, 0, bus),
-            bus,
-        },
-        Command::Unknown => Answered {
-            length: put_unknown(text, 0, line),
-            bus,
-        },
+        } => return answer_write(text, bus, device, offset, width, value),
+        Command::Lookup { address, width } => put_lookup(text, bus::lookup(bus, address, width)),
+        Command::Reset => return answer_reset(text, bus),
+        Command::Enumerate(device) => return answer_enumerate(text, bus, device),
+        Command::Revision(device) => put_revision(text, bus, device),
+        Command::Dump => put_dump(text, bus),
+        Command::Unknown => put_unknown(text, line),
     }
+    bus
 }
 
 // Answers a line, without its end: the text goes to the front of the buffer.
 pub fn answer(text: &mut [u8; ANSWER_ROOM], line: &[u8], bus: Bus) -> Answered
     ensures { Holds text.new result.length (answer_text bus line.now (command_of line.now)) × (result.bus ≡ bus_after bus (command_of line.now)) }
 {
-    answer_command(text, line, bus, command_of(line))
+    let mut text = Text { bytes: text, at: 0 };
+    let after = answer_command(&mut text, line, bus, command_of(line));
+    Answered {
+        length: text.at,
+        bus: after,
+    }
 }

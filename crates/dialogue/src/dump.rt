@@ -1,5 +1,6 @@
 // Every declared function as a dump that `lspci -F` reads.
-ghost use Rattle.std.specs.Prelude.{◌≡◌, ◌++◌, ◌+◌, ◌*◌, ◌≤◌, length, take};
+ghost use Rattle.std.specs.Prelude.{◌≡◌, ◌+◌, ◌*◌, ◌≤◌, length};
+ghost use Rattle.text.specs.Part.{Room, Put};
 ghost use Rattle.address.specs.Limits.{function_room};
 ghost use Rattle.dialogue.specs.Dump.{shown_or, byte_shown, bytes_text, bytes_room, row_text, row_room, rows_text, row_count, id_text, id_room, address_text, address_room, title_text, title_room, function_dump, dump_room, dump_text};
 
@@ -9,6 +10,7 @@ use address::limits::FUNCTION_LIMIT;
 use bus::Bus;
 use config::ReadAnswer;
 use refusal::Refusal;
+use text::Text;
 
 const ROW_BYTES: usize = 16;
 
@@ -35,114 +37,112 @@ fn byte_shown(bus: Bus, k: usize, offset: usize) -> u64
     shown_or(answer, word::byte_at(&live, offset))
 }
 
-fn put_row_bytes(text: &mut [u8], at: usize, bus: Bus, k: usize, row: usize) -> usize
-    requires { (at + bytes_room ≤ length text.old) × (row ≤ row_count) }
-    ensures { (result ≤ at + bytes_room) × (take result text.new ≡ take at text.old ++ bytes_text bus k row) }
+#[tactic(auto, unfolding(crate::specs::Dump::bytes_text))]
+fn put_row_bytes(text: &mut Text<'_>, bus: Bus, k: usize, row: usize)
+    requires { Room text.old bytes_room × (row ≤ row_count) }
+    ensures { Put text.old text.new bytes_room (bytes_text bus k row) }
 {
-    let mut next = at;
     for i in 0..ROW_BYTES {
-        next = put_column(text, next, 2, byte_shown(bus, k, row * ROW_BYTES + i));
+        put_column(text, 2, byte_shown(bus, k, row * ROW_BYTES + i));
     }
-    next
 }
 
 // A line of sixteen bytes.
-fn put_row(text: &mut [u8], at: usize, bus: Bus, k: usize, row: usize) -> usize
-    requires { (at + row_room ≤ length text.old) × (row ≤ row_count) }
-    ensures { (result ≤ at + row_room) × (take result text.new ≡ take at text.old ++ row_text bus k row) }
+#[tactic(auto, unfolding(crate::specs::Dump::row_text))]
+fn put_row(text: &mut Text<'_>, bus: Bus, k: usize, row: usize)
+    requires { Room text.old row_room × (row ≤ row_count) }
+    ensures { Put text.old text.new row_room (row_text bus k row) }
 {
-    let offset = put_hex(text, at, 2, (row * ROW_BYTES) as u64);
-    let colon = put_bytes(text, offset, b":");
-    let bytes = put_row_bytes(text, colon, bus, k, row);
-    put_bytes(text, bytes, b"\n")
+    put_hex(text, 2, (row * ROW_BYTES) as u64);
+    put_bytes(text, b":");
+    put_row_bytes(text, bus, k, row);
+    put_bytes(text, b"\n");
 }
 
-fn put_rows(text: &mut [u8], at: usize, bus: Bus, k: usize) -> usize
-    requires { at + row_count * row_room ≤ length text.old }
-    ensures { (result ≤ at + row_count * row_room) × (take result text.new ≡ take at text.old ++ rows_text bus k) }
+#[tactic(auto, unfolding(crate::specs::Dump::rows_text))]
+fn put_rows(text: &mut Text<'_>, bus: Bus, k: usize)
+    requires { Room text.old (row_count * row_room) }
+    ensures { Put text.old text.new (row_count * row_room) (rows_text bus k) }
 {
-    let mut next = at;
     for row in 0..ROWS {
-        next = put_row(text, next, bus, k, row);
+        put_row(text, bus, k, row);
     }
-    next
 }
 
 // The vendor's and the device's id.
-fn put_id(text: &mut [u8], at: usize, bus: Bus, k: usize) -> usize
-    requires { at + id_room ≤ length text.old }
-    ensures { (result ≤ at + id_room) × (take result text.new ≡ take at text.old ++ id_text bus k) }
+#[tactic(auto, unfolding(crate::specs::Dump::id_text))]
+fn put_id(text: &mut Text<'_>, bus: Bus, k: usize)
+    requires { Room text.old id_room }
+    ensures { Put text.old text.new id_room (id_text bus k) }
 {
-    let high = put_column(
+    put_column(
         text,
-        at,
         2,
         byte_shown(bus, k, config_layout::CONFIG_VENDOR_ID_OFFSET + 1),
     );
-    let low = put_hex(
+    put_hex(
         text,
-        high,
         2,
         byte_shown(bus, k, config_layout::CONFIG_VENDOR_ID_OFFSET),
     );
-    let colon = put_bytes(text, low, b":");
-    let high = put_hex(
+    put_bytes(text, b":");
+    put_hex(
         text,
-        colon,
         2,
         byte_shown(bus, k, config_layout::CONFIG_DEVICE_ID_OFFSET + 1),
     );
     put_hex(
         text,
-        high,
         2,
         byte_shown(bus, k, config_layout::CONFIG_DEVICE_ID_OFFSET),
-    )
+    );
 }
 
 // The address of a device's function.
-fn put_address(text: &mut [u8], at: usize, device: u8) -> usize
-    requires { at + address_room ≤ length text.old }
-    ensures { (result ≤ at + address_room) × (take result text.new ≡ take at text.old ++ address_text device) }
+#[tactic(auto, unfolding(crate::specs::Dump::address_text))]
+fn put_address(text: &mut Text<'_>, device: u8)
+    requires { Room text.old address_room }
+    ensures { Put text.old text.new address_room (address_text device) }
 {
-    let first = put_bytes(text, at, b"00:");
-    let device = put_hex(text, first, 2, u64::from(device));
-    put_bytes(text, device, b".0")
+    put_bytes(text, b"00:");
+    put_hex(text, 2, u64::from(device));
+    put_bytes(text, b".0");
 }
 
 // The line before the bytes: address, class and ids, as lspci -n prints them.
-fn put_title(text: &mut [u8], at: usize, bus: Bus, k: usize) -> usize
-    requires { at + title_room ≤ length text.old }
-    ensures { (result ≤ at + title_room) × (take result text.new ≡ take at text.old ++ title_text bus k) }
+#[tactic(auto, unfolding(crate::specs::Dump::title_text))]
+fn put_title(text: &mut Text<'_>, bus: Bus, k: usize)
+    requires { Room text.old title_room }
+    ensures { Put text.old text.new title_room (title_text bus k) }
 {
     let devices = bus.devices;
-    let address = put_address(text, at, word::byte_at(&devices, k));
+    put_address(text, word::byte_at(&devices, k));
     let base = byte_shown(bus, k, config_layout::CONFIG_BASE_CLASS_OFFSET);
-    let base_end = put_column(text, address, 2, base);
+    put_column(text, 2, base);
     let sub = byte_shown(bus, k, config_layout::CONFIG_SUBCLASS_OFFSET);
-    let sub_end = put_hex(text, base_end, 2, sub);
-    let colon = put_bytes(text, sub_end, b":");
-    put_id(text, colon, bus, k)
+    put_hex(text, 2, sub);
+    put_bytes(text, b":");
+    put_id(text, bus, k);
 }
 
-fn put_function_dump(text: &mut [u8], at: usize, bus: Bus, k: usize) -> usize
-    requires { at + dump_room ≤ length text.old }
-    ensures { (result ≤ at + dump_room) × (take result text.new ≡ take at text.old ++ function_dump bus k) }
+#[tactic(auto, unfolding(crate::specs::Dump::function_dump))]
+fn put_function_dump(text: &mut Text<'_>, bus: Bus, k: usize)
+    requires { Room text.old dump_room }
+    ensures { Put text.old text.new dump_room (function_dump bus k) }
 {
-    let title = put_title(text, at, bus, k);
-    let end = put_bytes(text, title, b"\n");
-    let rows = put_rows(text, end, bus, k);
-    put_bytes(text, rows, b"\n")
+    put_title(text, bus, k);
+    put_bytes(text, b"\n");
+    put_rows(text, bus, k);
+    put_bytes(text, b"\n");
 }
 
-pub(crate) fn put_dump(text: &mut [u8], at: usize, bus: Bus) -> usize
-    requires { at + function_room * dump_room ≤ length text.old }
-    ensures { (result ≤ at + function_room * dump_room) × (take result text.new ≡ take at text.old ++ dump_text bus) }
+#[tactic(auto, unfolding(crate::specs::Dump::dump_text))]
+pub(crate) fn put_dump(text: &mut Text<'_>, bus: Bus)
+    requires { Room text.old (function_room * dump_room) }
+    ensures { Put text.old text.new (function_room * dump_room) (dump_text bus) }
 {
     let count = word::at_most(bus.count, FUNCTION_LIMIT);
-    let mut next = at;
     for k in 0..count {
-        next = put_function_dump(text, next, bus, k);
+        put_function_dump(text, bus, k);
     }
-    next
 }

@@ -1,33 +1,9 @@
-use mathlib.Core.Path.{◌≡◌, refl, sym, ◌∙◌}
-use native.Mathlib.Omega.{arith}
-use lib.ListN.{take}
-use Rattle.text.proofs.Writes.{parts_none, parts_more}
-use Rattle.address.specs.Layout.{bar_count}
-use Rattle.dialogue.specs.Report.{slot_in, slots_text}
+use Rattle.text.proofs.Writes.{put_none, put_more}
+use Rattle.dialogue.specs.Report.{slot_in, slot_room}
 use Rattle.dialogue.proofs.report.put_slots.Goals as goal
 
 pub loop-i-init : goal.loop-i-init
-loop-i-init c =
-    let a = c.args in
-    (omega arith, refl, sym (parts_none (take a.at a.text.now) (slot_in a.report)))
-
-pub put_slot-next-requires : goal.put_slot-next-requires
-put_slot-next-requires c = omega arith
+loop-i-init c = put_none c.args.text.now (slot_in c.args.report) slot_room
 
 pub loop-i-preserved : goal.loop-i-preserved
-loop-i-preserved c =
-    let a = c.args in
-    let l = c.loop-i in
-    let k = c.put_slot-next.ensures in
-    (omega (arith, k.0), c.text-1.given ∙ l.invariant.1, rw (k.1, l.invariant.2) (parts_more (take a.at a.text.now) (slot_in a.report) l.i))
-
-pub shape_of-text : goal.shape_of-text
-shape_of-text c = c.loop-i.invariant.1
-
-pub returns : goal.returns
-unfolding slots_text
-returns c =
-    let a = c.args in
-    let l = c.loop-i in
-    let e : l.i ≡ bar_count = omega arith in
-    (omega arith, rw e at l.invariant.2)
+loop-i-preserved c = put_more c.args.text.now c.loop-i.text c.put_slot.new.text (slot_in c.args.report) slot_room c.loop-i.i c.loop-i.invariant c.put_slot.ensures
