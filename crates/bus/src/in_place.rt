@@ -1,4 +1,4 @@
-// Write and reset on a bus that is lent and changed in place.
+// Write and reset on a bus that is lent and changed in place; by value and in place are both promised (docs/PROMISES.md).
 ghost use Rattle.std.specs.Prelude.{◌≡◌};
 ghost use Rattle.bus.specs.Access.{bus_write_of};
 ghost use Rattle.bus.specs.Reset.{bus_reset_of};

@@ -1,4 +1,4 @@
-// The write step on a state that is lent and changed in place.
+// The write step on a state that is lent and changed in place; by value and in place are both promised (docs/PROMISES.md).
 ghost use Rattle.std.specs.Prelude.{◌≡◌};
 ghost use Rattle.config.specs.Write.{write_of};
 

@@ -18,7 +18,7 @@ pub struct Listed {
     pub id: u8,
 }
 
-// Absent, with everything blank; or identity, pin, slots, and the list of capabilities, blank past its count.
+// For C by a fixed layout, so no Option: absent, with everything blank; or identity, pin, slots, and the list of capabilities, blank past its count.
 #[repr(C)]
 #[derive(Clone, Copy)]
 pub struct Report {

@@ -4,7 +4,7 @@ use Rattle.word.proofs.Searches.{any_none, any_more, any_never}
 use Rattle.placement.specs.Keys.{key_count}
 use Rattle.bus.specs.Lookup.{holds_at}
 use Rattle.bus.proofs.Committed.{range_listed}
-use Rattle.bus.proofs.Lookups.{lookup_width, lookup_hit, lookup_miss, holds_from, holds_listed}
+use Rattle.bus.proofs.Lookups.{lookup_width, lookup_hit, lookup_miss, holds_listed}
 use Rattle.bus.proofs.memory_lookup.lookup.Goals as goal
 use Rattle.bus.proofs.memory_lookup.lookup.Goals.{After-holds-held}
 
@@ -17,12 +17,6 @@ loop-key-init c = let a = c.args in any_none (holds_at a.bus a.address a.width)
 -- what the call says of the BAR at the key
 held : (c : After-holds-held) → c.holds-held.result ≡ holds_at c.args.bus c.args.address c.args.width c.loop-key.key
 held c = c.holds-held.ensures ∙ rw (c.ranges_on-ranges.ensures, c.decoding_on-decoding.ensures) (holds_listed _ _ _ c.loop-key.key _ (omega arith))
-
-pub overflow_sub-result : goal.overflow_sub-result
-overflow_sub-result c =
-    let l = c.loop-key in
-    let h = holds_from _ _ _ l.key (sym (held (goal.at.overflow_sub-result c).After-holds-held) ∙ c.if-held.true) in
-    rw (c.ranges_on-ranges.ensures, range_listed c.args.bus l.key (record { start = 0; size = 0 }) (omega arith)) h
 
 pub returns-then-held : goal.returns-then-held
 returns-then-held c =

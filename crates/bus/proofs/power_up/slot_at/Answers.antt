@@ -1,11 +1,7 @@
 use mathlib.Core.Path.{sym, ◌∙◌}
-use native.Mathlib.Omega.{arith}
 use borrow.Author.Rules.{rules}
 use Rattle.address.proofs.Slots.{slot_good, slot_is}
 use Rattle.bus.proofs.power_up.slot_at.Goals as goal
-
-pub overflow_cast-i : goal.overflow_cast-i
-overflow_cast-i c = omega arith
 
 pub unwrap-requires : goal.unwrap-requires
 unwrap-requires c = rw (c.new.ensures ∙ slot_good _ c.requires) (search rules)

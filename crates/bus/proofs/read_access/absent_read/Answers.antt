@@ -8,6 +8,3 @@ pub ones-requires : goal.ones-requires
 ones-requires c =
     let r = access_is config_space_size _ _ _ _ (sym c.check.ensures ∙ c.in_ok-access.was) in
     rw r.2 r.0.known
-
-pub returns : goal.returns
-returns c = rw (c.ones.ensures, ← c.check.ensures, c.in_ok-access.was)

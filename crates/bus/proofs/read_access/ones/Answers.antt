@@ -6,12 +6,6 @@ use Rattle.word.proofs.Widths.{by_width, width_most}
 use Rattle.address.specs.Check.{most_width}
 use Rattle.bus.proofs.read_access.ones.Goals as goal
 
-pub returns-in-1 : goal.returns-in-1
-returns-in-1 c = rw c.in-1.is
-
-pub returns-in-2 : goal.returns-in-2
-returns-in-2 c = rw c.in-2.is
-
 pub returns-in_default : goal.returns-in_default
 returns-in_default c =
     let r = c.in_default.in_default-own.rest in

@@ -1,26 +1,11 @@
 -- `build` lays the fields of each stage over blank lists, in document 01’s order.
-use mathlib.Core.Path.{◌≡◌, sym}
-use lib.ListN.{length}
+use mathlib.Core.Path.{◌≡◌}
 use Rattle.address.specs.Layout.{config_space_size}
 use Rattle.config.specs.Field.{image_of}
-use Rattle.config.specs.Space.{body_space}
 use Rattle.config.specs.PowerOn.{image_fields, mask_fields, power_on_of}
 use Rattle.config.proofs.Fields.{laid_append, laid_blank}
-use borrow.Author.Rules.{rules}
 use Rattle.config.proofs.power_on.PowerOn.build.Goals as goal
 use Rattle.config.proofs.power_on.PowerOn.build.Goals.{Start}
-
-long_bodies : (c : Start) → length c.args.contents.bodies ≡ body_space
-long_bodies c = search rules
-
-long_masks : (c : Start) → length c.args.contents.masks ≡ body_space
-long_masks c = search rules
-
-pub slice_bounds-put_capabilities-end-3 : goal.slice_bounds-put_capabilities-end-3
-slice_bounds-put_capabilities-end-3 c = sym (long_bodies (goal.at.slice_bounds-put_capabilities-end-3 c).Start)
-
-pub slice_bounds-put_capabilities-end-4 : goal.slice_bounds-put_capabilities-end-4
-slice_bounds-put_capabilities-end-4 c = sym (long_masks (goal.at.slice_bounds-put_capabilities-end-4 c).Start)
 
 pub returns : goal.returns
 unfolding power_on_of
