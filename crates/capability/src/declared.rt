@@ -93,11 +93,10 @@ impl Capabilities {
     pub fn length_at(self, index: usize) -> u8
         ensures { result ≡ length_at self index }
     {
-        if CAPABILITY_LIMIT <= index {
-            return 0;
+        match self.list.get(index) {
+            Some(capability) => capability.length,
+            None => 0,
         }
-        let capability = self.list[index];
-        capability.length
     }
 
     // Declares one more capability: refusal 4.

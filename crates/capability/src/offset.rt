@@ -18,7 +18,7 @@ pub(crate) fn next_offset(start: usize, body: u8) -> usize
     ensures { result ≡ next_multiple (capability_end start body) }
 {
     let end = start + CAPABILITY_HEADER_SIZE + (body as usize);
-    (end + CAPABILITY_ALIGNMENT - 1) / CAPABILITY_ALIGNMENT * CAPABILITY_ALIGNMENT
+    end.next_multiple_of(CAPABILITY_ALIGNMENT)
 }
 
 // An offset that is in the space.
