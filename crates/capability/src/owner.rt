@@ -24,10 +24,11 @@ fn effect_count(placed: Placed) -> usize
 pub(crate) fn capability_in(placed: Placed, i: usize) -> PlacedCapability
     ensures { result ≡ capability_at placed i }
 {
-    if i < capability_count(placed) {
-        return placed.capabilities[i];
-    }
-    PlacedCapability::none()
+    let n = capability_count(placed);
+    placed.capabilities[..n]
+        .get(i)
+        .copied()
+        .unwrap_or(PlacedCapability::none())
 }
 
 // Where the capability at an index starts, 0 past the last.
@@ -42,10 +43,11 @@ pub fn capability_start(placed: Placed, i: usize) -> u16
 pub(crate) fn effect_at(placed: Placed, i: usize) -> PlacedEffect
     ensures { result ≡ effect_at placed i }
 {
-    if i < effect_count(placed) {
-        return placed.effects[i];
-    }
-    PlacedEffect::none()
+    let n = effect_count(placed);
+    placed.effects[..n]
+        .get(i)
+        .copied()
+        .unwrap_or(PlacedEffect::none())
 }
 
 // Where the region of an effect starts in config space.
