@@ -15,13 +15,14 @@ use capability::{
 };
 use refusal::Refusal;
 
-const MODE_OUTSIDE: u8 = 0;
-
-const MODE_CONSTANT: u8 = 1;
-
-const MODE_STORED: u8 = 2;
-
-const MODE_EFFECT: u8 = 3;
+// The mode of a byte, as C has it.
+#[derive(Clone, Copy, Debug, PartialEq, Eq)]
+enum Mode {
+    Outside = 0,
+    Constant = 1,
+    Stored = 2,
+    Effect = 3,
+}
 
 // What an access does to the effects; blank but for the refusal where it is not inside one.
 #[repr(C)]
@@ -82,10 +83,10 @@ fn mode_number(mode: Option<ByteMode>) -> u8
     ensures { result ≡ mode_number mode }
 {
     match mode {
-        Some(ByteMode::Constant) => MODE_CONSTANT,
-        Some(ByteMode::StoredMasked) => MODE_STORED,
-        Some(ByteMode::EffectOnly) => MODE_EFFECT,
-        None => MODE_OUTSIDE,
+        Some(ByteMode::Constant) => Mode::Constant as u8,
+        Some(ByteMode::StoredMasked) => Mode::Stored as u8,
+        Some(ByteMode::EffectOnly) => Mode::Effect as u8,
+        None => Mode::Outside as u8,
     }
 }
 
@@ -96,7 +97,7 @@ pub extern "C" fn harness_mode(placed: Placed, mask: &[u8], offset: usize) -> u8
 {
     match ConfigOffset::new(CONFIG_SPACE_SIZE, offset) {
         Some(at) => mode_number(mode_of(placed, mask, at)),
-        None => MODE_OUTSIDE,
+        None => Mode::Outside as u8,
     }
 }
 

@@ -14,14 +14,14 @@ use capability::{Placed, PlacedEffect, Snapshot};
 use config::{FunctionState, PowerOn, ReadAnswer, WriteAnswer, no_body};
 use refusal::Refusal;
 
-// What a write did; a refused one has the kind of one that stored.
-const KIND_STORED: u8 = 0;
-
-const KIND_PROBING: u8 = 1;
-
-const KIND_CANDIDATE: u8 = 2;
-
-const KIND_EFFECT: u8 = 3;
+// What a write did, as C has it; a refused one has the kind of one that stored.
+#[derive(Clone, Copy, Debug, PartialEq, Eq)]
+enum Kind {
+    Stored = 0,
+    Probing = 1,
+    Candidate = 2,
+    Effect = 3,
+}
 
 #[repr(C)]
 #[derive(Clone, Copy)]
@@ -141,14 +141,14 @@ fn write_out(answer: Result<WriteAnswer, Refusal>, state: FunctionState) -> Writ
 {
     let refusal = refusal::ACCEPTED;
     match answer {
-        Ok(WriteAnswer::Stored) => plain_write(refusal, KIND_STORED, 0, 0, state),
-        Ok(WriteAnswer::Probing(slot)) => plain_write(refusal, KIND_PROBING, slot, 0, state),
+        Ok(WriteAnswer::Stored) => plain_write(refusal, Kind::Stored as u8, 0, 0, state),
+        Ok(WriteAnswer::Probing(slot)) => plain_write(refusal, Kind::Probing as u8, slot, 0, state),
         Ok(WriteAnswer::Candidate { slot, address }) => {
-            plain_write(refusal, KIND_CANDIDATE, slot, address, state)
+            plain_write(refusal, Kind::Candidate as u8, slot, address, state)
         }
         Ok(WriteAnswer::Effect { hit, body }) => WriteOut {
             refusal,
-            kind: KIND_EFFECT,
+            kind: Kind::Effect as u8,
             slot: 0,
             address: 0,
             capability_id: hit.capability_id,
@@ -158,7 +158,7 @@ fn write_out(answer: Result<WriteAnswer, Refusal>, state: FunctionState) -> Writ
             body,
             state,
         },
-        Err(refusal) => plain_write(refusal.number(), KIND_STORED, 0, 0, state),
+        Err(refusal) => plain_write(refusal.number(), Kind::Stored as u8, 0, 0, state),
     }
 }
 

@@ -3,7 +3,7 @@ ghost use Rattle.std.specs.Prelude.{◌≡◌};
 ghost use Rattle.voussglen.specs.Result.{lookup_result};
 ghost use Rattle.voussglen.specs.Step.{lookup_step};
 
-use crate::results::{KIND_HIT, KIND_MISS, KIND_REFUSED, LookupAsk, LookupResult};
+use crate::results::{Kind, LookupAsk, LookupResult};
 use bus::{Bus, Hit};
 use refusal::Refusal;
 
@@ -12,21 +12,21 @@ fn result_of(answer: Result<Option<Hit>, Refusal>) -> LookupResult
 {
     match answer {
         Ok(Some(hit)) => LookupResult {
-            kind: KIND_HIT,
+            kind: Kind::Hit as u8,
             refusal: refusal::ACCEPTED,
             device: hit.device,
             slot: hit.slot,
             offset: hit.offset,
         },
         Ok(None) => LookupResult {
-            kind: KIND_MISS,
+            kind: Kind::Miss as u8,
             refusal: refusal::ACCEPTED,
             device: 0,
             slot: 0,
             offset: 0,
         },
         Err(refusal) => LookupResult {
-            kind: KIND_REFUSED,
+            kind: Kind::Refused as u8,
             refusal: refusal.number(),
             device: 0,
             slot: 0,

@@ -4,7 +4,7 @@ ghost use Rattle.bus.specs.Access.{bus_read_of};
 ghost use Rattle.voussglen.specs.Result.{read_plain, read_result, read_body};
 ghost use Rattle.voussglen.specs.Step.{read_step};
 
-use crate::results::{KIND_EFFECT, KIND_REFUSED, KIND_VALUE, ReadAsk, ReadResult, no_effect};
+use crate::results::{Kind, ReadAsk, ReadResult, no_effect};
 use bus::Bus;
 use capability::Snapshot;
 use config::ReadAnswer;
@@ -26,14 +26,14 @@ fn result_of(answer: Result<ReadAnswer, Refusal>) -> ReadResult
     ensures { result ≡ read_result answer }
 {
     match answer {
-        Ok(ReadAnswer::Value(value)) => plain(KIND_VALUE, refusal::ACCEPTED, value),
+        Ok(ReadAnswer::Value(value)) => plain(Kind::Value as u8, refusal::ACCEPTED, value),
         Ok(ReadAnswer::Effect { hit, body: _ }) => ReadResult {
-            kind: KIND_EFFECT,
+            kind: Kind::Effect as u8,
             refusal: refusal::ACCEPTED,
             value: 0,
             effect: hit,
         },
-        Err(refusal) => plain(KIND_REFUSED, refusal.number(), 0),
+        Err(refusal) => plain(Kind::Refused as u8, refusal.number(), 0),
     }
 }
 

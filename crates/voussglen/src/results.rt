@@ -4,26 +4,20 @@ ghost use Rattle.voussglen.specs.Result.{no_effect};
 
 use capability::{EffectHit, PlacedEffect};
 
-// What an answer is.
-pub const KIND_REFUSED: u8 = 0;
-
-pub const KIND_VALUE: u8 = 1;
-
-pub const KIND_STORED: u8 = 2;
-
-pub const KIND_DROPPED: u8 = 3;
-
-pub const KIND_PROBING: u8 = 4;
-
-pub const KIND_MOVED: u8 = 5;
-
-pub const KIND_KEPT: u8 = 6;
-
-pub const KIND_EFFECT: u8 = 7;
-
-pub const KIND_HIT: u8 = 8;
-
-pub const KIND_MISS: u8 = 9;
+// What an answer is; C has it as a byte.
+#[derive(Clone, Copy, Debug, PartialEq, Eq)]
+pub enum Kind {
+    Refused = 0,
+    Value = 1,
+    Stored = 2,
+    Dropped = 3,
+    Probing = 4,
+    Moved = 5,
+    Kept = 6,
+    Effect = 7,
+    Hit = 8,
+    Miss = 9,
+}
 
 // `width` bytes at `offset` of a device.
 #[repr(C)]

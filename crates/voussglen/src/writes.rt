@@ -3,10 +3,7 @@ ghost use Rattle.std.specs.Prelude.{◌≡◌};
 ghost use Rattle.voussglen.specs.Result.{write_plain, did_result, device_told, write_result, write_body};
 ghost use Rattle.voussglen.specs.Step.{write_step};
 
-use crate::results::{
-    KIND_DROPPED, KIND_EFFECT, KIND_KEPT, KIND_MOVED, KIND_PROBING, KIND_REFUSED, KIND_STORED,
-    WriteAsk, WriteResult, no_effect,
-};
+use crate::results::{Kind, WriteAsk, WriteResult, no_effect};
 use bus::{Bus, BusWriteAnswer, WriteRefusal};
 use capability::Snapshot;
 use refusal::Refusal;
@@ -30,13 +27,25 @@ fn did(answer: BusWriteAnswer) -> WriteResult
 {
     let refusal = refusal::ACCEPTED;
     match answer {
-        BusWriteAnswer::Stored => plain(KIND_STORED, refusal, 0, 0, 0),
-        BusWriteAnswer::Dropped => plain(KIND_DROPPED, refusal, 0, 0, 0),
-        BusWriteAnswer::Probing(slot) => plain(KIND_PROBING, refusal, 0, slot, 0),
-        BusWriteAnswer::Moved { slot, address } => plain(KIND_MOVED, refusal, 0, slot, address),
-        BusWriteAnswer::Kept { slot, address } => plain(KIND_KEPT, refusal, 0, slot, address),
+        BusWriteAnswer::Stored => plain(Kind::Stored as u8, refusal, 0, 0, 0),
+        BusWriteAnswer::Dropped => plain(Kind::Dropped as u8, refusal, 0, 0, 0),
+        BusWriteAnswer::Probing(slot) => plain(Kind::Probing as u8, refusal, 0, slot, 0),
+        BusWriteAnswer::Moved { slot, address } => plain(
+            Kind::Moved as u8,
+            refusal,
+            0,
+            slot,
+            address,
+        ),
+        BusWriteAnswer::Kept { slot, address } => plain(
+            Kind::Kept as u8,
+            refusal,
+            0,
+            slot,
+            address,
+        ),
         BusWriteAnswer::Effect { hit, body: _ } => WriteResult {
-            kind: KIND_EFFECT,
+            kind: Kind::Effect as u8,
             refusal,
             device: 0,
             slot: 0,
@@ -63,7 +72,13 @@ fn result_of(answer: Result<BusWriteAnswer, WriteRefusal>) -> WriteResult
         Ok(answer) => did(answer),
         Err(refused) => {
             let refusal = Refusal::from(refused);
-            plain(KIND_REFUSED, refusal.number(), device_told(refused), 0, 0)
+            plain(
+                Kind::Refused as u8,
+                refusal.number(),
+                device_told(refused),
+                0,
+                0,
+            )
         }
     }
 }
