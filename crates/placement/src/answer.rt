@@ -54,6 +54,7 @@ fn addresses_of(placed: [Range; KEY_COUNT]) -> [u64; KEY_COUNT]
 }
 
 // Both passes, fixed BARs first.
+#[tactic(auto, unfolding(crate::specs::Passes::placing_of))]
 fn place_bars(
     aperture: Aperture,
     bars: [MemoryBar; KEY_COUNT],
@@ -65,6 +66,7 @@ fn place_bars(
 }
 
 // The address of every BAR in the aperture by key, 0 where there is no BAR.
+#[tactic(auto, unfolding(crate::specs::Answer::placement_of))]
 pub fn resolve_bar_addresses(
     aperture: Aperture,
     declared: DeclaredBars,

@@ -12,6 +12,7 @@ use bar::{Aperture, MemoryBar, Range};
 use refusal::Refusal;
 
 // Gives a key the lowest place for its size.
+#[tactic(auto, using(crate::proofs::Places::is_lowest))]
 fn place_lowest(
     aperture: Aperture,
     size: u64,
@@ -34,6 +35,7 @@ fn place_lowest(
 }
 
 // The next BAR, if one waits.
+#[tactic(auto, unfolding(crate::specs::Passes::auto_step))]
 fn automatic_step(
     aperture: Aperture,
     bars: [MemoryBar; KEY_COUNT],
@@ -51,6 +53,7 @@ fn automatic_step(
 }
 
 // There are no more automatic BARs than keys.
+#[tactic(auto, unfolding(crate::specs::Passes::auto_after))]
 pub(crate) fn place_automatic(
     aperture: Aperture,
     bars: [MemoryBar; KEY_COUNT],

@@ -11,6 +11,7 @@ use bar::{Aperture, MemoryBar, Range, Request};
 use refusal::Refusal;
 
 // The checks of a fixed range, in order.
+#[tactic(auto, unfolding(crate::specs::Passes::fixed_verdict, crate::specs::Place::is_place))]
 fn checked_bar_range(
     aperture: Aperture,
     placed: [Range; KEY_COUNT],
@@ -31,6 +32,7 @@ fn checked_bar_range(
 }
 
 // Whether a BAR may stand at an address, given the ranges of others.
+#[tactic(auto, using(crate::proofs::Verdicts::verdict_place))]
 pub fn is_place(aperture: Aperture, size: u64, placed: [Range; KEY_COUNT], address: u64) -> bool
     ensures { result ≡ is_place aperture size placed address }
 {
@@ -42,6 +44,7 @@ pub fn is_place(aperture: Aperture, size: u64, placed: [Range; KEY_COUNT], addre
 }
 
 // The BAR of one key: a fixed one is checked and placed.
+#[tactic(auto, unfolding(crate::specs::Passes::fixed_step))]
 fn fixed_step(
     aperture: Aperture,
     bars: [MemoryBar; KEY_COUNT],
@@ -70,6 +73,7 @@ fn fixed_step(
     }
 }
 
+#[tactic(auto, unfolding(crate::specs::Passes::fixed_after))]
 pub(crate) fn place_fixed(
     aperture: Aperture,
     bars: [MemoryBar; KEY_COUNT],

@@ -7,6 +7,7 @@ use crate::keys::KEY_COUNT;
 use bar::{MemoryBar, Range, Request};
 
 // Whether a key has an automatic BAR that is not placed yet.
+#[tactic(auto, unfolding(crate::specs::Passes::waits))]
 fn waits(bars: [MemoryBar; KEY_COUNT], placed: [Range; KEY_COUNT], key: usize) -> bool
     requires { key < key_count }
     ensures { result ≡ waits bars placed key }

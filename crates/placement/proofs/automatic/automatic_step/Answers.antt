@@ -4,7 +4,6 @@ use mathlib.Core.Path.{sym, ◌∙◌}
 use native.Mathlib.Omega.{arith}
 use Rattle.placement.specs.Keys.{key_count}
 use Rattle.placement.proofs.Nexts.{next_is}
-use Rattle.placement.proofs.Steps.{auto_none, auto_next}
 use Rattle.placement.proofs.automatic.automatic_step.Goals as goal
 use Rattle.placement.proofs.automatic.automatic_step.Goals.{In-Some}
 
@@ -20,10 +19,3 @@ bounds-bars-key c = below (goal.at.bounds-bars-key c).In-Some
 
 pub place_lowest-requires : goal.place_lowest-requires
 place_lowest-requires c = below (goal.at.place_lowest-requires c).In-Some
-
-pub returns-in-None : goal.returns-in-None
-returns-in-None c = sym (auto_none _ _ _ (sym c.next_automatic.ensures ∙ c.in-None.is))
-
-pub returns-in-Some : goal.returns-in-Some
-returns-in-Some c =
-    c.place_lowest.ensures ∙ rw c.size.ensures (sym (auto_next _ _ _ c.in-Some.key (sym c.next_automatic.ensures ∙ c.in-Some.is)))
