@@ -24,7 +24,7 @@ pub struct BarState {
     pub probing: bool,
 }
 
-// What a write to a BAR's register asks for.
+// What a write to a BAR's register asks for. A case for each, as axdevice has them: None would not say that a probe starts.
 #[derive(Clone, Copy, Debug, PartialEq, Eq)]
 pub enum BarWrite {
     Probe,

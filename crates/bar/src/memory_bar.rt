@@ -6,6 +6,7 @@ use crate::range::FOUR_GIB;
 use address::Slot;
 use refusal::Refusal;
 
+// Both cases have their name in the rules ("automatic or a fixed address").
 #[derive(Clone, Copy, Debug, PartialEq, Eq)]
 pub enum Request {
     Auto,

@@ -39,7 +39,7 @@ fn declared_bars(declaration: Declaration) -> DeclaredBars
     }
 }
 
-// The slot at an index.
+// The slot at an index. It asks a bound, so no public function can be both this one and that of harness.
 fn slot_at(i: usize) -> Slot
     requires { i < bar_count }
     ensures { result ≡ slot i }

@@ -10,7 +10,7 @@ use bar::{Aperture, BarState};
 use capability::Placed;
 use config::FunctionState;
 
-// The function at an index has the device at that index; devices ascend; what lies past the count is blank.
+// The function at an index has the device at that index; devices ascend; what lies past the count is blank. C reads this layout, and there is no heap.
 #[repr(C)]
 #[derive(Clone, Copy)]
 pub struct Bus {

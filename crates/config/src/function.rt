@@ -36,7 +36,7 @@ pub struct ConfigByte {
     pub mask: u8,
 }
 
-// The bytes of bodies and masks lie each at its place in config space, from 0x40 on.
+// The bytes of bodies and masks lie each at its place in config space, from 0x40 on. There is no heap.
 #[derive(Clone, Copy)]
 pub struct Contents {
     pub identity: Identity,

@@ -2,6 +2,7 @@
 ghost use Rattle.std.specs.Prelude.{◌≡◌, [], ◌∷◌};
 ghost use Rattle.config.specs.Field.{laid, at, part};
 
+// A byte and a word at their place. One for each: a shared one would leave the widening to every caller.
 pub fn put_byte(image: &mut [u8], offset: usize, value: u8)
     ensures { image.new ≡ laid image.old (at offset 1 value ∷ []) }
 {

@@ -4,7 +4,7 @@ use dialogue::{ANSWER_ROOM, Answered, LINE_MOST};
 use std::io;
 use std::io::{ErrorKind, Read, Write};
 
-// How much of the last line is held, and whether it began before that.
+// How much of the last line is held in the buffer, which outlives it, and whether it began before that.
 #[derive(Clone, Copy)]
 struct Held {
     pub length: usize,

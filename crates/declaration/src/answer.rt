@@ -25,7 +25,7 @@ pub struct DeclarationRefusal {
     pub place: Place,
 }
 
-// A bus as it is declared, its functions in device order; what lies past the count is blank.
+// A bus as it is declared, its functions in device order; what lies past the count is blank. There is no heap.
 #[derive(Clone, Copy)]
 pub struct Declaration {
     pub aperture: Aperture,

@@ -8,7 +8,7 @@ use crate::so_far::{SoFar, no_function};
 use address::limits::FUNCTION_LIMIT;
 use config::Function;
 
-// What lies past the count is blank.
+// What lies past the count is blank. There is no heap.
 #[derive(Clone, Copy)]
 pub struct Finished {
     pub functions: [Function; FUNCTION_LIMIT],

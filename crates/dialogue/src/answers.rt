@@ -25,7 +25,7 @@ pub const ANSWER_ROOM: usize = FUNCTION_LIMIT * (24 + 16 * 52 + 1);
 // The most bytes that are shown of a line that is not known.
 pub const LINE_MOST: usize = 4096;
 
-// How long the answer is, and the bus after it.
+// How long the answer in the lent buffer is, and the bus after it.
 #[derive(Clone, Copy)]
 pub struct Answered {
     pub length: usize,

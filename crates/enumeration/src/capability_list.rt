@@ -10,6 +10,7 @@ use address::config_layout;
 use address::limits::CAPABILITY_LIMIT;
 use bus::Bus;
 
+// There is no heap.
 #[derive(Clone, Copy)]
 pub(crate) struct ListDone {
     pub list: [Listed; CAPABILITY_LIMIT],

@@ -1,4 +1,4 @@
-// What is declared of a function, as numbers, and the image that it gives.
+// What is declared of a function, as numbers, since C has no Option and no Result, and the image that it gives.
 ghost use Rattle.std.specs.Prelude.{◌≡◌};
 ghost use Rattle.config.specs.ConfigByte.{byte_check_of};
 ghost use Rattle.config.specs.PowerOn.{power_on_of};

@@ -1,4 +1,4 @@
-// Accesses to effects, modes of bytes, views and copies of bodies, as numbers.
+// Accesses to effects, modes of bytes, views and copies of bodies, as numbers: C has no Option and no Result.
 ghost use Rattle.std.specs.Prelude.{◌≡◌};
 ghost use Rattle.address.specs.Layout.{config_space_size};
 ghost use Rattle.address.specs.Check.{access_of};

@@ -1,4 +1,4 @@
-// A function's state and its steps, as numbers.
+// A function's state and its steps, as numbers: C has no Option and no Result.
 ghost use Rattle.std.specs.Prelude.{◌≡◌};
 ghost use Rattle.address.specs.Kinds.{slot_of};
 ghost use Rattle.config.specs.Read.{read_of};

@@ -1,4 +1,4 @@
-// Capabilities and effects in numbers.
+// Capabilities and effects in numbers: C has no Option and no Result.
 ghost use Rattle.std.specs.Prelude.{◌≡◌, min};
 ghost use Rattle.capability.specs.Declaration.{capability};
 ghost use Rattle.capability.specs.Size.{body_most};
@@ -13,7 +13,7 @@ use capability::{
 use std::array;
 use word::at_most;
 
-// A function's capabilities in declaration order, each with its id and body length, and its effects with the index of their capability and the number of their access.
+// A function's capabilities in declaration order, each with its id and body length, and its effects with the index of their capability and the number of their access. C reads this layout.
 #[repr(C)]
 #[derive(Clone, Copy)]
 pub struct DeclaredNumbers {

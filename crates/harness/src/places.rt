@@ -1,4 +1,4 @@
-// Placement in numbers.
+// Placement in numbers: C has no Option and no Result.
 ghost use Rattle.std.specs.Prelude.{◌≡◌, ◌<◌};
 ghost use Rattle.address.specs.Layout.{bar_count};
 ghost use Rattle.address.specs.Kinds.{slot};
@@ -12,7 +12,7 @@ use placement::{DeclaredBars, FunctionBars, KEY_COUNT, PlacementRefusal, resolve
 use refusal::ACCEPTED;
 use std::array;
 
-// The aperture, and the BARs of `count` functions: place `i * 6 + slot` of an array is that slot of function i, and a size of 0 is no BAR.
+// The aperture, and the BARs of `count` functions: place `i * 6 + slot` of an array is that slot of function i, and a size of 0 is no BAR. C reads this layout.
 #[repr(C)]
 #[derive(Clone, Copy)]
 pub struct PlaceNumbers {

@@ -1,4 +1,4 @@
-// Checks and registers, on plain numbers.
+// Checks and registers, on plain numbers: C has no Option and no Result.
 ghost use Rattle.std.specs.Prelude.{◌≡◌};
 ghost use Rattle.refusal.specs.Refusal.{answer_number};
 ghost use Rattle.address.specs.Layout.{config_space_size};

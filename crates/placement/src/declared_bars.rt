@@ -8,7 +8,7 @@ use crate::keys::KEY_COUNT;
 use address::limits::{BAR_SLOTS, FUNCTION_LIMIT};
 use bar::MemoryBar;
 
-// The BARs of one function, the first `count` of the array, in any order of slots.
+// The BARs of one function, the first `count` of the array, in any order of slots. There is no heap.
 #[derive(Clone, Copy)]
 pub struct FunctionBars {
     pub device: u8,
@@ -16,7 +16,7 @@ pub struct FunctionBars {
     pub bars: [MemoryBar; BAR_SLOTS],
 }
 
-// Those of all functions, the first `count` of the array, in ascending order of devices.
+// Those of all functions, the first `count` of the array, in ascending order of devices. There is no heap.
 #[derive(Clone, Copy)]
 pub struct DeclaredBars {
     pub count: usize,

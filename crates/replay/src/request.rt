@@ -1,11 +1,12 @@
 // The BARs that a record asks for.
 use crate::record::{DEVICES, PLACES, number};
-use address::limits::{BAR_SLOTS, FUNCTION_LIMIT};
 use address::Slot;
+use address::limits::{BAR_SLOTS, FUNCTION_LIMIT};
 use bar::{MemoryBar, Request};
 use placement::{DeclaredBars, FunctionBars};
 use std::array;
 
+// The kinds as the record on disk has them.
 const KIND_NONE: u64 = 0;
 
 const KIND_FIXED: u64 = 2;

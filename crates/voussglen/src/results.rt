@@ -1,4 +1,4 @@
-// Questions and answers as plain structs. `refusal` is document 01's number, 0 where there is none; what an answer does not tell is 0.
+// Questions and answers as plain structs, since C has no Option and no Result. `refusal` is document 01's number, 0 where there is none; what an answer does not tell is 0.
 ghost use Rattle.std.specs.Prelude.{◌≡◌};
 ghost use Rattle.voussglen.specs.Result.{no_effect};
 
