@@ -41,6 +41,15 @@ module _ (bytes : List ℕ) (o : ℕ) (part : List ℕ) (room : o + length part 
 pub counts : (n : ℕ) (buffer : List ℕ) → n ≤ length buffer → IsPrefixLen n buffer
 counts n buffer h = (h, sym (length-take-le n buffer h))
 
+-- parts written one after the other
+abbrev pub run : List ℕ → List (List ℕ) → List ℕ
+run f [] = f
+run f (p ∷ ps) = run (f ++ p) ps
+
+pub joined : (f p : List ℕ) (ps : List (List ℕ)) → run (f ++ p) ps ≡ f ++ run p ps
+joined f p [] = refl
+joined f p (q ∷ ps) = ap (λ (x : List ℕ). run x ps) (append_assoc f p q) ∙ joined f (p ++ q) ps
+
 -- parts behind a text: none, and one more
 pub parts_none : (f : List ℕ) (part : ℕ → List ℕ) → f ++ parts_below part 0 ≡ f
 unfolding parts_below
