@@ -8,7 +8,7 @@ use refusal::Refusal;
 
 const FIELD_HEADER: usize = 3;
 
-// A field: its tag, and the span of its body in the file.
+// A field: its tag, and the span of its body in the file. The tag is a byte, since `say` and `take_field` take every byte.
 #[derive(Clone, Copy, Debug, PartialEq, Eq)]
 pub struct Field {
     pub tag: u8,

@@ -1,4 +1,5 @@
 // A reader that holds the lent file and its position, thin over the functions on slice and position.
+// It is no iterator: `next` looks without moving, and a refused field is met again.
 ghost use Rattle.std.specs.Prelude.{◌≡◌};
 ghost use Rattle.declaration.specs.Frame.{frame_of};
 ghost use Rattle.declaration.specs.Reader.{more_at, field_body, next_from};

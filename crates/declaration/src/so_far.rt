@@ -9,6 +9,7 @@ use capability::{CAPABILITY_BODY_MAX_SIZE, Capabilities};
 use config::{BODY_SPACE, ConfigByte, Contents, Function, Identity};
 
 // The aperture, the devices in the order of the file, the latest function, and the write masks of its latest capability.
+// Devices are an array and a count, since there is no heap.
 #[derive(Clone, Copy)]
 pub struct SoFar {
     pub aperture: Option<Aperture>,
