@@ -1,5 +1,5 @@
 -- What a line asks (the console's table of commands: "words are parted by single spaces").
-use Rattle.std.specs.Prelude.{ℕ, ◌+◌, ◌-◌, cond, List, eqb, length, get_or, Option, Some, None, option_and_then, unwrap_or}
+use Rattle.std.specs.Prelude.{ℕ, ◌+◌, ◌-◌, cond, List, eqb, length, get_or, Option, Some, None, option_and_then, option_map, unwrap_or}
 use Rattle.word.specs.Search.{first_below}
 use Rattle.word.specs.Number.{part_of}
 use Rattle.command.specs.Numeral.{numeral_of}
@@ -34,7 +34,7 @@ argument_at line at base =
     None
 
 -- "DEV, OFF, ADDR and VALUE" in hex, "widths .. decimal"; what is asked of an argument, none where there is none
-abbrev pub with_hex : List ℕ → ℕ → (Argument → Option Command) → Option Command
+abbrev pub with_hex : {A : Type 0} → List ℕ → ℕ → (Argument → Option A) → Option A
 with_hex line at asks = option_and_then asks (argument_at line at 16)
 
 abbrev pub with_decimal : List ℕ → ℕ → (Argument → Option Command) → Option Command
@@ -68,9 +68,9 @@ lookup_by line =
     with_decimal line address.next (λ width.
     ended_by line width.next (Lookup address.value width.value)))
 
--- "e DEV", "v DEV"
-unfoldable pub device_by : List ℕ → (ℕ → Command) → Option Command
-device_by line asks = with_hex line after_letter (λ device. ended_by line device.next (asks device.value))
+-- "e DEV", "v DEV": the device that is the only argument
+unfoldable pub device_by : List ℕ → Option ℕ
+device_by line = with_hex line after_letter (λ device. cond (eqb device.next (length line)) (Some device.value) None)
 
 -- what a letter asks, given the line: "z" and "x" stand alone
 unfoldable pub command_by : ℕ → List ℕ → Option Command
@@ -79,8 +79,8 @@ command_by letter line =
     (cond (eqb letter 119) (write_by line)
     (cond (eqb letter 109) (lookup_by line)
     (cond (eqb letter 122) (ended_by line after_letter Reset)
-    (cond (eqb letter 101) (device_by line (λ d. Enumerate d))
-    (cond (eqb letter 118) (device_by line (λ d. Revision d))
+    (cond (eqb letter 101) (option_map Enumerate (device_by line))
+    (cond (eqb letter 118) (option_map Revision (device_by line))
     (cond (eqb letter 120) (ended_by line after_letter Dump) None))))))
 
 -- r, w, m, z, e, v, x; anything else is unknown

@@ -129,21 +129,16 @@ fn lookup_command(line: &[u8]) -> Option<Command>
     ended(line, width.next, command)
 }
 
-// This and the next differ in the command alone: the contract of a closure for it is longer than both.
+// The device that is the only argument.
 #[tactic(auto, unfolding(crate::specs::Command::device_by))]
-fn enumerate_command(line: &[u8]) -> Option<Command>
-    ensures { result ≡ device_by line.now (λ d. Command.Enumerate d) }
+fn device_alone(line: &[u8]) -> Option<usize>
+    ensures { result ≡ device_by line.now }
 {
     let device = argument_at(line, AFTER_LETTER, HEX)?;
-    ended(line, device.next, Command::Enumerate(device.value as usize))
-}
-
-#[tactic(auto, unfolding(crate::specs::Command::device_by))]
-fn revision_command(line: &[u8]) -> Option<Command>
-    ensures { result ≡ device_by line.now (λ d. Command.Revision d) }
-{
-    let device = argument_at(line, AFTER_LETTER, HEX)?;
-    ended(line, device.next, Command::Revision(device.value as usize))
+    if device.next == line.len() {
+        return Some(device.value as usize);
+    }
+    None
 }
 
 // The command of a letter, if the line goes on as it wants.
@@ -156,8 +151,8 @@ fn command_by(letter: u8, line: &[u8]) -> Option<Command>
         b'w' => write_command(line),
         b'm' => lookup_command(line),
         b'z' => ended(line, AFTER_LETTER, Command::Reset),
-        b'e' => enumerate_command(line),
-        b'v' => revision_command(line),
+        b'e' => Some(Command::Enumerate(device_alone(line)?)),
+        b'v' => Some(Command::Revision(device_alone(line)?)),
         b'x' => ended(line, AFTER_LETTER, Command::Dump),
         _ => None,
     }
