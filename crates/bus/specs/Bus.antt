@@ -1,6 +1,6 @@
 -- A bus: an aperture and functions in device order.
-use Rattle.std.specs.Prelude.{ℕ, ◌*◌, ◌+◌, ◌/◌, ◌%◌, min, Bool, cond, List, ltb, eqb, get_or, set, replicate}
-use Rattle.word.specs.Search.{first_below}
+use Rattle.std.specs.Prelude.{ℕ, ◌*◌, ◌+◌, ◌/◌, ◌%◌, min, Bool, cond, Option, None, Some, List, ltb, eqb, get_or, set, replicate}
+use Rattle.word.specs.Search.{first_below, first_of}
 use Rattle.word.specs.Table.{table}
 use Rattle.address.specs.Layout.{config_space_size, bar_count}
 use Rattle.address.specs.Limits.{function_room}
@@ -36,6 +36,10 @@ function_at b k = get_or b.functions k no_function_state
 -- the index of a device among the first n of a list; n where it is none of them
 unfoldable pub index_in : List ℕ → ℕ → ℕ → ℕ
 index_in devices n device = first_below (λ k. eqb (get_or devices k 0) device) n
+
+-- the same where it is one of them
+unfoldable pub index_found : List ℕ → ℕ → ℕ → Option ℕ
+index_found devices n device = first_of Some None (λ k. eqb (get_or devices k 0) device) n
 
 -- the function of a device, by its index; the count where the device is not declared
 abbrev pub index_on : Bus → ℕ → ℕ

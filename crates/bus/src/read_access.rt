@@ -37,9 +37,8 @@ pub fn read(bus: Bus, device: usize, offset: usize, width: usize) -> Result<Read
 {
     let count = count_on(bus.count);
     let devices = bus.devices;
-    let k = index_of(&devices, count, device);
-    if k < count {
-        return config::read(bus.functions[k], offset, width);
+    match index_of(&devices, count, device) {
+        Some(k) => config::read(bus.functions[k], offset, width),
+        None => absent_read(offset, width),
     }
-    absent_read(offset, width)
 }

@@ -2,7 +2,7 @@
 ghost use Rattle.std.specs.Prelude.{◌≡◌, min, replicate};
 ghost use Rattle.address.specs.Layout.{config_space_size};
 ghost use Rattle.address.specs.Limits.{function_room};
-ghost use Rattle.bus.specs.Bus.{no_function_state, empty_bus, function_at, index_in};
+ghost use Rattle.bus.specs.Bus.{no_function_state, empty_bus, function_at, index_found};
 
 use address::config_layout::CONFIG_SPACE_BYTES;
 use address::limits::{BAR_SLOTS, FUNCTION_LIMIT};
@@ -63,16 +63,11 @@ pub(crate) fn count_on(count: usize) -> usize
     word::at_most(count, FUNCTION_LIMIT)
 }
 
-// The index of a device among the first `count`, or the count where it is none of them.
-pub fn index_of(devices: &[u8], count: usize, device: usize) -> usize
-    ensures { result ≡ index_in devices.now count device }
+// The index of a device among the first `count`, if it is one of them.
+pub fn index_of(devices: &[u8], count: usize, device: usize) -> Option<usize>
+    ensures { result ≡ index_found devices.now count device }
 {
-    for k in 0..count {
-        if (word::byte_at(devices, k) as usize) == device {
-            return k;
-        }
-    }
-    count
+    (0..count).find(|k| word::byte_at(devices, *k) as usize == device)
 }
 
 // The function at an index; the blank one past the last place.

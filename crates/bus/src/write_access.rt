@@ -141,15 +141,16 @@ pub fn write(bus: Bus, device: usize, offset: usize, width: usize, value: u64) -
 {
     let count = count_on(bus.count);
     let devices = bus.devices;
-    let k = index_of(&devices, count, device);
-    if k < count {
-        let step = write_on(bus, k, offset, width, value);
-        let mut out = bus;
-        out.functions[k] = step.function;
-        return BusWriteDone {
-            answer: step.answer,
-            bus: out,
-        };
+    match index_of(&devices, count, device) {
+        Some(k) => {
+            let step = write_on(bus, k, offset, width, value);
+            let mut out = bus;
+            out.functions[k] = step.function;
+            BusWriteDone {
+                answer: step.answer,
+                bus: out,
+            }
+        }
+        None => absent_write(bus, offset, width),
     }
-    absent_write(bus, offset, width)
 }

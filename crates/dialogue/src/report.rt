@@ -145,17 +145,17 @@ fn put_counted(text: &mut Text<'_>, revision: u64)
     put_bytes(text, b"\n");
 }
 
-#[tactic(auto, unfolding(crate::specs::Report::revision_text))]
 pub(crate) fn put_revision(text: &mut Text<'_>, bus: Bus, device: usize)
     requires { Room text.old revision_room }
     ensures { Put text.old text.new revision_room (revision_text bus device) }
 {
     let count = word::at_most(bus.count, FUNCTION_LIMIT);
     let devices = bus.devices;
-    let k = bus::index_of(&devices, count, device);
-    if k < count {
-        let function = bus::function_at(bus, k);
-        return put_counted(text, function.revision);
+    match bus::index_of(&devices, count, device) {
+        Some(k) => {
+            let function = bus::function_at(bus, k);
+            put_counted(text, function.revision);
+        }
+        None => put_bytes(text, b"absent\n"),
     }
-    put_bytes(text, b"absent\n");
 }

@@ -1,33 +1,22 @@
-use mathlib.Core.Path.{◌≡◌, sym, ◌∙◌}
+-- `index_of` is the library's `find`.
+use Prim.Native.Nat.{ℕ}
+use mathlib.Core.Bool.{Bool}
+use mathlib.Core.Path.{refl, sym, ◌∙◌}
 use native.Mathlib.Omega.{arith}
-use borrow.Author.Tests.{eq-eqb, ne_eqb}
-use Rattle.word.proofs.Searches.{any_none, any_more, any_never, least_at, least_none}
-use Rattle.bus.specs.Bus.{index_in}
+use lib.Dec.{eqb}
+use lib.ListN.{get_or}
+use Rattle.std.proofs.Common.{rules, tests}
+use Rattle.std.proofs.lemmas.Iterator.{YieldsList-from_range}
+use Rattle.std.proofs.lemmas.Iterator.Adapters.{option_map_id}
+use Rattle.std.proofs.lemmas.Iterator.Search.{find_from_yields_List}
+use Rattle.word.proofs.Listed.{find_range}
+use Rattle.bus.specs.Bus.{index_found}
 use Rattle.bus.proofs.state.index_of.Goals as goal
-use Rattle.bus.proofs.state.index_of.Invariants.{is}
-
-pub loop-k-init : goal.loop-k-init
-loop-k-init c = any_none (is c.args.devices.now c.args.device)
-
-pub returns-then-byte_at-device : goal.returns-then-byte_at-device
-unfolding index_in
-returns-then-byte_at-device c =
-    let l = c.loop-k in
-    let a = c.args in
-    let p = is a.devices.now a.device in
-    sym (least_at p a.count l.k (omega arith) (eq-eqb _ _ (sym c.byte_at.ensures ∙ c.if-byte_at-device.true)) (any_never p l.k l.invariant))
-
-pub loop-k-preserved : goal.loop-k-preserved
-loop-k-preserved c =
-    let l = c.loop-k in
-    let a = c.args in
-    any_more (is a.devices.now a.device) l.k l.invariant (ne_eqb _ _ (λ e. c.if-byte_at-device.false (c.byte_at.ensures ∙ e)))
 
 pub returns : goal.returns
-unfolding index_in
+unfolding index_found
 returns c =
-    let l = c.loop-k in
     let a = c.args in
-    let p = is a.devices.now a.device in
-    let e : l.k ≡ a.count = omega arith in
-    sym (least_none p a.count (any_never p a.count (rw e at l.invariant)))
+    let test : ℕ → Bool = λ k. eqb (get_or a.devices.now k 0) a.device in
+    let h = find_from_yields_List test _ _ c.find.result c.find.ensures.ran (YieldsList-from_range 0 a.count a.count refl (omega arith)) (λ x b q k. search (rules, tests)) in
+    sym (option_map_id c.find.result) ∙ h ∙ find_range test a.count
