@@ -25,6 +25,7 @@ pub enum Command {
     Enumerate(usize),
     Revision(usize),
     Dump,
+    // What the console answers with the line itself, so a case of its own.
     Unknown,
 }
 

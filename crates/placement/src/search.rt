@@ -31,6 +31,7 @@ pub fn first_fit(aperture: Aperture, size: u64, placed: [Range; KEY_COUNT]) -> O
     ensures { Lowest aperture size placed result }
 {
     let mut start = align_up(aperture.start, size)?;
+    // It goes from range to range and counts nothing.
     loop {
         let candidate = Range { start, size };
         if !candidate.lies_in(aperture) {

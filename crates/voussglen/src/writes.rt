@@ -83,7 +83,7 @@ fn result_of(answer: Result<BusWriteAnswer, WriteRefusal>) -> WriteResult
     }
 }
 
-// What the lent buffer holds: the body of an effect, else what it held.
+// What the lent buffer holds: the body of an effect, else what it held. As for a read: a trait over both answers would be longer.
 fn body_of(answer: Result<BusWriteAnswer, WriteRefusal>, held: Snapshot) -> Snapshot
     ensures { result ≡ write_body held answer }
 {
