@@ -18,18 +18,21 @@ fn value_at(bus: Bus, device: usize, offset: usize, width: usize) -> Option<u64>
 }
 
 // A read of the bus as a byte, a word or a dword, 0 where it gives no number. One for each: a shared one would leave the narrowing to every caller.
+#[tactic(auto, unfolding(crate::specs::Enumerate::asked))]
 pub(crate) fn ask_byte(bus: Bus, device: usize, offset: usize) -> u8
     ensures { result ≡ asked bus device offset 1 }
 {
     (value_at(bus, device, offset, 1).unwrap_or(0) % 0x100) as u8
 }
 
+#[tactic(auto, unfolding(crate::specs::Enumerate::asked))]
 pub(crate) fn ask_word(bus: Bus, device: usize, offset: usize) -> u16
     ensures { result ≡ asked bus device offset 2 }
 {
     (value_at(bus, device, offset, 2).unwrap_or(0) % 0x1_0000) as u16
 }
 
+#[tactic(auto, unfolding(crate::specs::Enumerate::asked))]
 pub(crate) fn ask_dword(bus: Bus, device: usize, offset: usize) -> u64
     ensures { result ≡ asked bus device offset 4 }
 {
@@ -37,12 +40,14 @@ pub(crate) fn ask_dword(bus: Bus, device: usize, offset: usize) -> u64
 }
 
 // Whether a read of one byte gives one.
+#[tactic(auto, unfolding(crate::specs::Enumerate::answers_byte))]
 pub(crate) fn answers_byte(bus: Bus, device: usize, offset: usize) -> bool
     ensures { result ≡ answers_byte bus device offset }
 {
     value_at(bus, device, offset, 1).is_some()
 }
 
+#[tactic(auto, unfolding(crate::specs::Enumerate::identity_read))]
 pub(crate) fn read_identity(bus: Bus, device: usize) -> Identity
     ensures { result ≡ identity_read bus device }
 {

@@ -25,6 +25,7 @@ pub(crate) fn no_list() -> [Listed; CAPABILITY_LIMIT]
 }
 
 // Whether a pointer leads to a capability.
+#[tactic(auto, unfolding(crate::specs::Turn::goes_on))]
 fn goes_on(bus: Bus, device: usize, at: u8) -> bool
     ensures { result ≡ goes_on bus device at }
 {
@@ -35,6 +36,7 @@ fn goes_on(bus: Bus, device: usize, at: u8) -> bool
 }
 
 // The capability that it leads to.
+#[tactic(auto, unfolding(crate::specs::Turn::listed_at))]
 fn listed_at(bus: Bus, device: usize, at: u8) -> Listed
     ensures { result ≡ listed_at bus device at }
 {
@@ -45,6 +47,7 @@ fn listed_at(bus: Bus, device: usize, at: u8) -> Listed
 }
 
 // The pointer after it, 0 where none is read.
+#[tactic(auto, unfolding(crate::specs::Turn::next_pointer))]
 fn next_pointer(bus: Bus, device: usize, at: u8) -> u8
     ensures { result ≡ next_pointer bus device at }
 {

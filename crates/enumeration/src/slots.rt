@@ -43,6 +43,7 @@ struct SlotDone {
 }
 
 // One slot: read, write ones, read, write back.
+#[tactic(auto, unfolding(crate::specs::Enumerate::slot_read, crate::specs::Enumerate::after_slot))]
 fn enumerate_slot(bus: Bus, device: usize, slot: usize) -> SlotDone
     requires { slot < bar_count }
     ensures { (result.report ≡ slot_read bus device slot) × (result.bus ≡ after_slot bus device slot) }
