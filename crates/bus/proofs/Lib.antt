@@ -26,3 +26,4 @@ pub mod SoundDeclared
 pub mod Devices
 pub mod OwnPlaces
 pub mod RunCase
+pub mod WriteRefusals

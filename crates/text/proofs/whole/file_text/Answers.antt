@@ -18,10 +18,10 @@ unfolding text_of
 returns c =
     let short = le-ltb _ _ c.if-file-gt-FILE_MOST.false in
     elim c.match-start.branch [
-      in-Ok w ↦
-        let p = w.put_accepted.ensures in
-        rw w.text-is (counts _ _ (omega (arith, p.end, p.long)), p.text ∙ rw (w.shown_of.ensures, ← c.start.ensures, w.in-Ok.is, short))
-    | in-Err w ↦
-        let p = w.put_refused.ensures in
-        rw w.text-is (counts _ _ (omega (arith, p.end, p.long)), p.text ∙ rw (← c.start.ensures, w.in-Err.is, short))
+      | in-Ok w ↦
+          let p = w.put_accepted.ensures in
+          rw w.text-is (counts _ _ (omega (arith, p.end, p.long)), p.text ∙ rw (w.shown_of.ensures, ← c.start.ensures, w.in-Ok.is, short))
+      | in-Err w ↦
+          let p = w.put_refused.ensures in
+          rw w.text-is (counts _ _ (omega (arith, p.end, p.long)), p.text ∙ rw (← c.start.ensures, w.in-Err.is, short))
     ]
