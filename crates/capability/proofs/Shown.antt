@@ -8,7 +8,7 @@ use Rattle.word.proofs.Tables.{get_or_table, filled_at, filled_past}
 use Rattle.address.specs.Limits.{capability_room, effect_room}
 use Rattle.capability.specs.Declaration.{count_of, effect_count_of, declared_effect}
 use Rattle.capability.specs.Blank.{no_placed_capability, no_placed_effect, nothing_placed}
-use Rattle.capability.specs.Layout.{placed_capability, placed_effect, placed_of, placed_for, answer_of, layout_of, placed_or_nothing}
+use Rattle.capability.specs.Layout.{placed_capability, placed_effect, placed_of, placed_for, answer_of, answer_in, layout_of, placed_or_nothing}
 use Rattle.capability.specs.Owner.{capability_count, effect_count}
 use Rattle.capability.specs.declared.declared.Capabilities.{Capabilities}
 use Rattle.capability.specs.declared.layout.LayoutRefusal.{LayoutRefusal}
@@ -16,7 +16,16 @@ use Rattle.capability.specs.declared.placed.PlacedCapability.{PlacedCapability}
 use Rattle.capability.specs.declared.placed.PlacedEffect.{PlacedEffect}
 use Rattle.capability.specs.declared.placed.Placed.{Placed}
 
+-- what is placed for an answer comes with that answer
+answered : (d : Capabilities) (a : Result (Unit {0}) LayoutRefusal) → answer_in (placed_for d a) ≡ a
+answered d (Ok tt) = refl
+answered d (Err r) = refl
+
 module _ (space : ℕ) (d : Capabilities) where
+  pub layout_answer_lem : answer_in (layout_of space d) ≡ answer_of space d
+  unfolding layout_of
+  layout_answer_lem = answered d (answer_of space d)
+
   shown_by : (a : Result (Unit {0}) LayoutRefusal) → answer_of space d ≡ a → layout_of space d ≡ placed_for d a
   unfolding layout_of
   shown_by a e = ap (placed_for d) e

@@ -8,7 +8,7 @@ use borrow.Author.Tests.{ltb-true, leb-true, eqb-true, lt-ltb, lt-leb, le-leb, l
 use lib.Dec.{ltb, leb, eqb}
 use lib.ListN.{length, get_or, drop, length-take, length-drop}
 use lib.Seq.{get_or-take, get_or-drop}
-use Rattle.std.proofs.Common.{Some, None}
+use Rattle.std.proofs.Common.{Some, None, unwrap_or}
 use Rattle.word.proofs.Tests.{and_left, and_right}
 use Rattle.capability.specs.Size.{body_most}
 use Rattle.capability.specs.Layout.{layout_of, placed_or_nothing}
@@ -78,15 +78,15 @@ module _ (p : Placed) (i : ℕ) (live power : List ℕ) (space : ℕ) where
 
   -- what is shown
   pub shown_live : viewed p i live power space ≡ true → body_of p i live power space true ≡ body_in p i live
-  unfolding body_of
+  unfolding body_of view_of
   shown_live e = rw e
 
   pub shown_power : viewed p i live power space ≡ true → body_of p i live power space false ≡ body_in p i power
-  unfolding body_of
+  unfolding body_of view_of
   shown_power e = rw e
 
   pub shown_none : (fromLive : Bool) → viewed p i live power space ≡ false → body_of p i live power space fromLive ≡ []
-  unfolding body_of
+  unfolding body_of view_of
   shown_none fromLive e = rw e
 
 -- byte k of a body stands at the body's start plus k, in either image
@@ -100,7 +100,7 @@ unfolding body_in
 body_long_lem p i image h = simp (length-take, length-drop) (omega arith)
 
 -- what a view shows fits into a copy, whichever image it is from
-fits_by : (t : Bool) (p : Placed) (i : ℕ) (image : List ℕ) → length (cond t (body_in p i image) []) ≤ body_most
+fits_by : (t : Bool) (p : Placed) (i : ℕ) (image : List ℕ) → length (unwrap_or (cond t (Some (body_in p i image)) None) []) ≤ body_most
 unfolding body_in
 fits_by true p i image = omega (arith, length-take (body_length p i) (drop (body_start p i) image), body_most_lem p i)
 fits_by false p i image = omega arith
@@ -113,7 +113,7 @@ module _ (p : Placed) (i : ℕ) (live power : List ℕ) (space : ℕ) (fromLive 
   copy = view_copy (view_of p i live power space fromLive)
 
   view_fits : length body ≤ body_most
-  unfolding body_of
+  unfolding body_of view_of
   view_fits = fits_by (viewed p i live power space) p i (cond fromLive live power)
 
   copied_by : (t : Bool) → viewed p i live power space ≡ t → copy.body ≡ copy_of body

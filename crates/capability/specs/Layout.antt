@@ -65,6 +65,11 @@ abbrev pub placed_for : Capabilities → Result (Unit {0}) LayoutRefusal → Res
 placed_for d (Ok u) = Ok (placed_of d)
 placed_for d (Err r) = Err r
 
+-- an answer with no more than whether there is a layout, or the refusal
+abbrev pub answer_in : Result Placed LayoutRefusal → Result (Unit {0}) LayoutRefusal
+answer_in (Ok p) = Ok tt
+answer_in (Err r) = Err r
+
 unfoldable pub layout_of : ℕ → Capabilities → Result Placed LayoutRefusal
 layout_of space d = placed_for d (answer_of space d)
 

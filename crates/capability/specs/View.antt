@@ -1,5 +1,5 @@
 -- Capability views (document 01, "Power-on image": "A capability view hands back the body from the live image or from the power-on image, as asked. A capability index past the last, or a lent image that isn't 256 bytes long, is answered by none, which differs from an empty body").
-use Rattle.std.specs.Prelude.{Option, Some, None, ℕ, ◌+◌, ◌<◌, ◌≤◌, Bool, true, false, ◌&&◌, cond, List, [], ◌≡◌, ltb, leb, eqb, length, take, drop}
+use Rattle.std.specs.Prelude.{Option, Some, None, ℕ, ◌+◌, ◌<◌, ◌≤◌, Bool, true, false, ◌&&◌, cond, List, [], ◌≡◌, ltb, leb, eqb, length, take, drop, unwrap_or}
 use Rattle.capability.specs.Owner.{capability_count}
 use Rattle.capability.specs.Snapshot.{body_start, body_length, copy_of}
 use Rattle.capability.specs.declared.placed.Placed.{Placed}
@@ -21,13 +21,13 @@ pub record Seen (p : Placed) (i : ℕ) (live powerOn : List ℕ) (space : ℕ) :
 unfoldable pub body_in : Placed → ℕ → List ℕ → List ℕ
 body_in p i image = take (body_length p i) (drop (body_start p i) image)
 
--- what a view shows: the body in the image that is asked for, nothing where there is none
-unfoldable pub body_of : Placed → ℕ → List ℕ → List ℕ → ℕ → Bool → List ℕ
-body_of p i live powerOn space fromLive = cond (viewed p i live powerOn space) (body_in p i (cond fromLive live powerOn)) []
-
 -- the view: an absent one differs from an empty body
 unfoldable pub view_of : Placed → ℕ → List ℕ → List ℕ → ℕ → Bool → Option (List ℕ)
 view_of p i live powerOn space fromLive = cond (viewed p i live powerOn space) (Some (body_in p i (cond fromLive live powerOn))) None
+
+-- what a view shows: the body in the image that is asked for, nothing where there is none
+unfoldable pub body_of : Placed → ℕ → List ℕ → List ℕ → ℕ → Bool → List ℕ
+body_of p i live powerOn space fromLive = unwrap_or (view_of p i live powerOn space fromLive) []
 
 -- a view, copied
 abbrev pub view_copy : Option (List ℕ) → ViewCopy

@@ -4,3 +4,4 @@ pub mod Words
 pub mod Spelling
 pub mod Examples
 pub mod Commands
+pub mod Arguments

@@ -1,5 +1,5 @@
 -- What a line asks (the console's table of commands: "words are parted by single spaces").
-use Rattle.std.specs.Prelude.{ℕ, ◌+◌, ◌-◌, cond, List, eqb, length, get_or, Option, Some, None, option_and_then, option_map, unwrap_or}
+use Rattle.std.specs.Prelude.{ℕ, ◌+◌, ◌-◌, Bool, false, cond, List, eqb, length, get_or, Option, Some, None, option_and_then, option_map, unwrap_or}
 use Rattle.word.specs.Search.{first_below}
 use Rattle.word.specs.Number.{part_of}
 use Rattle.command.specs.Numeral.{numeral_of}
@@ -39,6 +39,37 @@ with_hex line at asks = option_and_then asks (argument_at line at 16)
 
 abbrev pub with_decimal : List ℕ → ℕ → (Argument → Option Command) → Option Command
 with_decimal line at asks = option_and_then asks (argument_at line at 10)
+
+-- an argument after another, none where one before it is none
+abbrev pub hex_after : List ℕ → Option Argument → Option Argument
+hex_after line last = option_and_then (λ (a : Argument). argument_at line a.next 16) last
+
+abbrev pub decimal_after : List ℕ → Option Argument → Option Argument
+decimal_after line last = option_and_then (λ (a : Argument). argument_at line a.next 10) last
+
+-- the first argument: the device of an access, the address of a lookup
+abbrev pub first_in : List ℕ → Option Argument
+first_in line = argument_at line after_letter 16
+
+-- those that follow in an access: offset, width and value
+abbrev pub offset_in : List ℕ → Option Argument
+offset_in line = hex_after line (first_in line)
+
+abbrev pub width_in : List ℕ → Option Argument
+width_in line = decimal_after line (offset_in line)
+
+abbrev pub value_in : List ℕ → Option Argument
+value_in line = hex_after line (width_in line)
+
+-- what an argument gives, 0 where there is none
+abbrev pub given : Option Argument → ℕ
+given (Some a) = a.value
+given None = 0
+
+-- whether the line ends after an argument, and there is one
+abbrev pub ends_after : List ℕ → Option Argument → Bool
+ends_after line (Some a) = eqb a.next (length line)
+ends_after line None = false
 
 -- a command, where the line ends at a place
 abbrev pub ended_by : List ℕ → ℕ → Command → Option Command

@@ -19,10 +19,11 @@ use Rattle.declaration.specs.declared.answer.Place.TheVariants as place
 use Rattle.declaration.specs.declared.answer.Declaration.{Declaration}
 use Rattle.declaration.specs.declared.answer.DeclarationRefusal.{DeclarationRefusal}
 
--- a bus as it is declared; the empty one has no aperture and no functions
+-- a bus as it is declared
 abbrev pub declaration_with : Aperture → Finished → Declaration
 declaration_with a f = record { aperture = a; functions = f.functions; count = f.count }
 
+-- no functions, and an aperture of no addresses, which no file declares
 abbrev pub no_declaration : Declaration
 no_declaration = declaration_with no_aperture none_finished
 

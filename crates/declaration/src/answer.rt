@@ -1,7 +1,7 @@
 // The answer to a file: the declaration, or a refusal with its place.
 ghost use Rattle.std.specs.Prelude.{◌≡◌};
 ghost use Rattle.address.specs.Limits.{limits};
-ghost use Rattle.declaration.specs.Answer.{first_refusal, checked_whole, declared_from, declared_by};
+ghost use Rattle.declaration.specs.Answer.{no_declaration, first_refusal, checked_whole, declared_from, declared_by};
 
 use crate::finished::Finished;
 use crate::reading::{Reading, read_fields};
@@ -31,6 +31,22 @@ pub struct Declaration {
     pub aperture: Aperture,
     pub functions: [Function; FUNCTION_LIMIT],
     pub count: usize,
+}
+
+impl Declaration {
+    // No functions, and an aperture of no addresses, which no file declares.
+    #[tactic(auto, unfolding(crate::specs::Finished::none_finished))]
+    pub fn none() -> Declaration
+        ensures { result ≡ no_declaration }
+    {
+        let finished = Finished::new();
+        let functions = finished.functions;
+        Declaration {
+            aperture: Aperture { start: 0, end: 0 },
+            functions,
+            count: 0,
+        }
+    }
 }
 
 // The first fault of the functions in device order.

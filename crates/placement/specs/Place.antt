@@ -1,5 +1,6 @@
 -- A place for a BAR and the lowest one (document 01, "Placement": "Each takes the lowest multiple of its size whose range lies in the aperture and meets nothing placed").
 use Rattle.std.specs.Prelude.{ℕ, ◌+◌, ◌<◌, Bool, true, false, not, ◌&&◌, List, ◌≡◌, length, get_or, Option, Some, None}
+use Rattle.refusal.specs.Number.{accepted, no_place}
 use Rattle.word.specs.Search.{any_below, first_of}
 use Rattle.bar.specs.Range.{range, multiple, lies_in, meets}
 use Rattle.bar.specs.declared.range.Range.{Range}
@@ -29,3 +30,8 @@ least_fit p n = first_of Some None p n
 -- the one answer that is so (proofs/Places.antt shows both)
 unfoldable pub lowest_of : Aperture → ℕ → List Range → Option ℕ
 lowest_of aperture size placed = least_fit (is_place aperture size placed) (aperture.end + 1)
+
+-- document 01's number for each answer
+abbrev pub fit_number : Option ℕ → ℕ
+fit_number (Some a) = accepted
+fit_number None = no_place

@@ -15,4 +15,4 @@ pub use answer::{PlacementRefusal, resolve_bar_addresses};
 pub use declared_bars::{DeclaredBars, FunctionBars};
 pub use fixed::is_place;
 pub use keys::KEY_COUNT;
-pub use search::first_fit;
+pub use search::{first_fit, fit_number};

@@ -1,12 +1,13 @@
 // The search for the lowest free place.
 ghost use Rattle.std.specs.Prelude.{◌≡◌};
 ghost use Rattle.bar.specs.Range.{end_of};
-ghost use Rattle.placement.specs.Place.{Lowest};
+ghost use Rattle.placement.specs.Place.{Lowest, fit_number};
 ghost use Rattle.placement.specs.Skip.{aligned_from};
 
 use crate::conflict::conflict_with;
 use crate::keys::KEY_COUNT;
 use bar::{Aperture, Range};
+use refusal::Refusal;
 
 // The least multiple of `size` from `from` on; the only multiple of 0 is 0.
 fn align_up(from: u64, size: u64) -> Option<u64>
@@ -41,5 +42,15 @@ pub fn first_fit(aperture: Aperture, size: u64, placed: [Range; KEY_COUNT]) -> O
             None => return Some(start),
             Some(other) => start = align_past(other, size)?,
         }
+    }
+}
+
+// The number of an answer of the search: that of refusal 17 where there is no place.
+pub fn fit_number(fit: Option<u64>) -> u8
+    ensures { result ≡ fit_number fit }
+{
+    match fit {
+        Some(_) => refusal::ACCEPTED,
+        None => Refusal::NoPlace.number(),
     }
 }

@@ -1,11 +1,10 @@
 -- The Run case and the two refusals that document 01 shows, as one statement over a list (proofs/Examples.antt proves it).
-use Rattle.std.specs.Prelude.{ℕ, List, [], ◌∷◌, ◌++◌, ◌≡◌, replicate}
+use Rattle.std.specs.Prelude.{ℕ, List, [], ◌∷◌, ◌++◌, ◌≡◌, replicate, Err}
 use Rattle.refusal.specs.declared.refusal.Refusal.TheVariants.{BadForm, OverlapsPlaced}
 use Rattle.declaration.specs.Answer.{refused_at}
 use Rattle.declaration.specs.declared.answer.Place.TheVariants.{Offset, Index}
 use Rattle.bus.specs.Run.{run_ranges, run_file}
-use Rattle.text.specs.Line.{refused_line}
-use Rattle.text.specs.Text.{accepted_text, text_of}
+use Rattle.text.specs.Text.{accepted_text, answer_text, text_of}
 use Rattle.text.specs.declared.shown.Shown.{Shown}
 
 -- devices 3 and 5, with their BARs where placement puts them
@@ -50,7 +49,7 @@ abbrev pub RunPrints : Type 0
 RunPrints = text_of run_file ≡ run_text
 
 unfoldable pub asked : List (List ℕ)
-asked = accepted_text run ∷ refused_line (refused_at OverlapsPlaced (Index 3 1)) ∷ refused_line (refused_at BadForm (Offset 19)) ∷ []
+asked = accepted_text run ∷ answer_text (Err (refused_at OverlapsPlaced (Index 3 1))) ∷ answer_text (Err (refused_at BadForm (Offset 19))) ∷ []
 
 unfoldable pub told : List (List ℕ)
 told = run_text ∷ refused_bar ∷ refused_field ∷ []

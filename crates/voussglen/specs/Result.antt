@@ -5,6 +5,7 @@ use Rattle.refusal.specs.Refusal.{number_of}
 use Rattle.refusal.specs.declared.refusal.Refusal.{Refusal}
 use Rattle.capability.specs.Blank.{no_placed_effect}
 use Rattle.capability.specs.declared.effect_access.EffectHit.{EffectHit}
+use Rattle.capability.specs.declared.placed.PlacedEffect.{PlacedEffect}
 use Rattle.capability.specs.declared.snapshot.Snapshot.{Snapshot}
 use Rattle.config.specs.declared.read_step.ReadAnswer.{ReadAnswer}
 use Rattle.config.specs.declared.read_step.ReadAnswer.TheVariants as read
@@ -56,9 +57,13 @@ kind_hit = 8
 abbrev pub kind_miss : ℕ
 kind_miss = 9
 
+-- "capability id, region, offset from the capability's start", and "the offset from the region's own start"
+abbrev pub effect_told : ℕ → PlacedEffect → ℕ → ℕ → EffectHit
+effect_told id region offset region_offset = record { capability_id = id; region = region; offset = offset; region_offset = region_offset }
+
 -- where no effect is told
 abbrev pub no_effect : EffectHit
-no_effect = record { capability_id = 0; region = no_placed_effect; offset = 0; region_offset = 0 }
+no_effect = effect_told 0 no_placed_effect 0 0
 
 abbrev pub read_plain : ℕ → ℕ → ℕ → ReadResult
 read_plain kind refusal value = record { kind = kind; refusal = refusal; value = value; effect = no_effect }

@@ -9,6 +9,8 @@ mod results;
 mod starts;
 mod writes;
 
+// An effect as it is told, by the name that it has in C.
+pub use capability::EffectHit as EffectTold;
 pub use lookups::vg_lookup;
 pub use reads::vg_read;
 pub use reports::vg_enumerate;
