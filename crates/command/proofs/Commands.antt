@@ -1,6 +1,6 @@
 -- A command from its arguments, each after the one before it; any of them may be missing.
 use Rattle.std.specs.Prelude.{ℕ, ◌≡◌, Bool, true, false, cond, eqb, length, List, Option, Some, None, option_map, refl}
-use Rattle.command.specs.Command.{argument_at, with_hex, with_decimal, ended_by, hex_after, decimal_after, first_in, given, ends_after, read_by, write_by, lookup_by, device_by}
+use Rattle.command.specs.Command.{argument_at, with_hex, with_decimal, ended_by, hex_after, decimal_after, first_in, offset_in, width_in, value_in, given, ends_after, read_by, write_by, lookup_by, device_by}
 use Rattle.command.specs.declared.line.Argument.{Argument}
 use Rattle.command.specs.declared.line.Command.{Command}
 use Rattle.command.specs.declared.line.Command.TheVariants.{Read, Write, Lookup}
@@ -64,3 +64,10 @@ module _ (line : List ℕ) where
 
   pub write_by_lem : (d o w v : Option Argument) (t : Bool) → d ≡ first_in line → o ≡ hex_after line d → w ≡ decimal_after line o → v ≡ hex_after line w → ends_after line v ≡ t → cond t (Some (Write (given d) (given o) (given w) (given v))) None ≡ write_by line
   write_by_lem d o w v t e f g i h = let u = rw (i, g, f, e) at h in rw (i, g, f, e, ← u) (write_first (first_in line) refl)
+
+  -- so a read and a write are told by the arguments that the line has in their places
+  pub read_in : cond (ends_after line (width_in line)) (Some (Read (given (first_in line)) (given (offset_in line)) (given (width_in line)))) None ≡ read_by line
+  read_in = read_by_lem (first_in line) (offset_in line) (width_in line) (ends_after line (width_in line)) refl refl refl refl
+
+  pub write_in : cond (ends_after line (value_in line)) (Some (Write (given (first_in line)) (given (offset_in line)) (given (width_in line)) (given (value_in line)))) None ≡ write_by line
+  write_in = write_by_lem (first_in line) (offset_in line) (width_in line) (value_in line) (ends_after line (value_in line)) refl refl refl refl refl
